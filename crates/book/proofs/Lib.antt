@@ -1,0 +1,3 @@
+pub mod Enrolling
+pub mod Firsts
+pub mod Spellings

@@ -1,0 +1,4 @@
+pub mod Names
+pub mod Plain
+pub mod Kept
+pub mod Puts
