@@ -1,0 +1,48 @@
+// What a line is refused for.
+ghost use mathlib.Core.Path.{_≡_};
+ghost use Rattle.reader.specs.declared.faults.ReadFault.the-variants as fault;
+use book::Refusal;
+
+// The place of the first word that is unfit, empty, extra or missing, or of the missing line feed.
+#[derive(Clone, Copy, PartialEq)]
+pub struct Malformed {
+    pub byte: usize,
+}
+
+// The place of the first name that is not enrolled.
+#[derive(Clone, Copy, PartialEq)]
+pub struct Unknown {
+    pub byte: usize,
+}
+
+// Bytes are counted from 1. The refusal of the call that the line makes is carried whole.
+#[derive(Clone, Copy)]
+pub enum ReadFault {
+    Malformed { byte: usize },
+    Unknown { byte: usize },
+    Refused(Refusal),
+}
+
+pub impl From<Malformed> for ReadFault as FromMalformed {
+    ghost converts = { λ e r. r ≡ fault.Malformed (e .byte) };
+
+    fn from(e: Malformed) -> ReadFault {
+        ReadFault::Malformed { byte: e.byte }
+    }
+}
+
+pub impl From<Unknown> for ReadFault as FromUnknown {
+    ghost converts = { λ e r. r ≡ fault.Unknown (e .byte) };
+
+    fn from(e: Unknown) -> ReadFault {
+        ReadFault::Unknown { byte: e.byte }
+    }
+}
+
+pub impl From<Refusal> for ReadFault as FromRefusal {
+    ghost converts = { λ e r. r ≡ fault.Refused e };
+
+    fn from(e: Refusal) -> ReadFault {
+        ReadFault::Refused(e)
+    }
+}

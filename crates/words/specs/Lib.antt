@@ -1,0 +1,4 @@
+pub mod Begins
+pub mod Cursor
+pub mod Integer
+pub mod Split
