@@ -4,3 +4,5 @@ pub mod Verbs
 pub mod Grammar
 pub mod Told
 pub mod Spelling
+pub mod Calls
+pub mod Answers

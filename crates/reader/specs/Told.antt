@@ -28,6 +28,6 @@ abbrev pub at-byte : {X Y : Type 0} → (X → Y) → Result X Malformed → Res
 at-byte f (Ok x) = Ok (f x)
 at-byte f (Err e) = Err (e .byte)
 
-abbrev pub unknown-at : {X : Type 0} → Result X Unknown → Result X ℕ
-unknown-at (Ok x) = Ok x
-unknown-at (Err e) = Err (e .byte)
+abbrev pub unknown-at : {X Y : Type 0} → (X → Y) → Result X Unknown → Result Y ℕ
+unknown-at f (Ok x) = Ok (f x)
+unknown-at f (Err e) = Err (e .byte)
