@@ -13,10 +13,16 @@ use Rattle.reader.specs.declared.lines.Reply.{Reply}
 use Rattle.reader.specs.declared.lines.Reply.the-variants.{Enrolled, Added, Withdrawn}
 use Rattle.reader.specs.Calls.{Outcome, faulted, answered, reading, calls-by}
 
+abbrev pub fault-number : ReadFault → ℕ
+fault-number (Malformed byte) = 17
+fault-number (Unknown byte) = 18
+fault-number (Refused e) = number e
+
+-- a fault of the text has its byte, and a refusal of the call is that of the plain book
 abbrev pub fault-said : ReadFault → Outcome
-fault-said (Malformed byte) = faulted (record { number = 17; byte = byte })
-fault-said (Unknown byte) = faulted (record { number = 18; byte = byte })
-fault-said (Refused e) = answered (refused (number e))
+fault-said (Malformed byte) = faulted (record { number = fault-number (Malformed byte); byte = byte })
+fault-said (Unknown byte) = faulted (record { number = fault-number (Unknown byte); byte = byte })
+fault-said (Refused e) = answered (refused (fault-number (Refused e)))
 
 abbrev pub line-said : Result Reply ReadFault → Outcome
 line-said (Ok (Enrolled n)) = answered (enrol-said (Ok n))

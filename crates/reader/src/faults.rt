@@ -1,6 +1,7 @@
 // What a line is refused for.
 ghost use mathlib.Core.Path.{_≡_};
 ghost use Rattle.reader.specs.declared.faults.ReadFault.the-variants as fault;
+ghost use Rattle.reader.specs.Answers.{fault-number};
 use book::Refusal;
 
 // The place of the first word that is unfit, empty, extra or missing, or of the missing line feed.
@@ -21,6 +22,19 @@ pub enum ReadFault {
     Malformed { byte: usize },
     Unknown { byte: usize },
     Refused(Refusal),
+}
+
+impl ReadFault {
+    // Its number in the list of refusals.
+    pub fn number(self) -> u8
+        ensures { λ r. ⌜ r ≡ fault-number self ⌝ }
+    {
+        match self {
+            ReadFault::Malformed { byte: _ } => 17,
+            ReadFault::Unknown { byte: _ } => 18,
+            ReadFault::Refused(e) => e.number(),
+        }
+    }
 }
 
 pub impl From<Malformed> for ReadFault as FromMalformed {

@@ -1,3 +1,4 @@
+pub mod Left
 pub mod Cuts
 pub mod Laws
 pub mod Spelling

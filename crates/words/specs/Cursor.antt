@@ -1,5 +1,5 @@
 -- What a part of the program says, and what a cursor over parts has still to hand out.
-use mathlib.Core.Bool.{cond}
+use mathlib.Core.Bool.{Bool, true, false, cond}
 use mathlib.Core.List.{List, [], _∷_}
 use mathlib.Core.Path.{_≡_}
 use Prim.Native.Nat.{_+_, _^_, _<_}
@@ -17,6 +17,10 @@ told p = record { byte = p .byte; text = p .text .now }
 -- the parts not handed out yet: nothing once done, and else those of what is left of the text
 abbrev pub todo : Parts → List Placed
 todo s = cond (s .done) [] (placed (s .whole .byte + s .at) (split (s .sep) (drop (s .at) (s .whole .text .now))))
+
+abbrev pub none : List Placed → Bool
+none [] = true
+none (p ∷ ps) = false
 
 -- the place of each byte of p, and the place after them, are numbers of 64 bits
 abbrev pub Fits : Part → Type 0

@@ -3,7 +3,7 @@ ghost use mathlib.Core.Path.{_≡_};
 ghost use Prim.Native.Nat.{ℕ, _≤_, _<_};
 ghost use lib.ListN.{length, getD};
 ghost use Rattle.words.specs.Split.{split, placed, Splits};
-ghost use Rattle.words.specs.Cursor.{told, todo, Fits, Handed};
+ghost use Rattle.words.specs.Cursor.{told, todo, none, Fits, Handed};
 use super::part::Part;
 use super::part::Parts;
 
@@ -34,6 +34,14 @@ impl<'a> Part<'a> {
 }
 
 impl<'a> Parts<'a> {
+    // Whether all parts are handed out.
+    pub fn is_empty(&self) -> bool
+        ensures { λ r. ⌜ r ≡ none (todo (now (self .entry))) ⌝ }
+    {
+        let Parts { done, .. } = self;
+        *done
+    }
+
     // Hands out the first of the parts that are left.
     pub fn next(&mut self) -> Option<Part<'a>>
         ensures { λ r. ⌜ Handed (todo (now (self .entry))) r (todo (now (self .exit))) ⌝ }

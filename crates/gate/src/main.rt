@@ -1,0 +1,14 @@
+// Reads standard input, and prints what the session answers.
+use session::transcript;
+use std::io;
+use std::io::Read;
+use std::io::Write;
+
+fn main(rt: LibcRuntime) -> io::Result<()> {
+    let heap = rt.alloc();
+    let mut input = Vec::new(heap);
+    // One byte more than an input may have tells that it is too long.
+    rt.stdin().take(32_769).read_to_end(&mut input)?;
+    let out = transcript(heap, input.as_slice())?;
+    rt.stdout().write_all(out.as_bytes())
+}

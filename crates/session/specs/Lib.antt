@@ -1,0 +1,4 @@
+pub mod Transcript
+pub mod State
+pub mod Shown
+pub mod Turns
