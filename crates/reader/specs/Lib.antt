@@ -6,3 +6,4 @@ pub mod Told
 pub mod Spelling
 pub mod Calls
 pub mod Answers
+pub mod Patterns

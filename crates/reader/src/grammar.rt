@@ -5,6 +5,7 @@ ghost use lib.Chars.{codes};
 ghost use Rattle.words.specs.Cursor.{told, todo};
 ghost use Rattle.reader.specs.Sentences.{role-by, phrase-by, sentence-by};
 ghost use Rattle.reader.specs.Grammar.{fit, a-role, a-number, a-sign, a-word, just, weight-at, second-at, body-at, statement-at, weighed-at, credential-at, command-at, header-at, only, done, closed, command-line, first-line};
+ghost use Rattle.reader.specs.Patterns.{patterns, header-patterns, line-fault, fault-of};
 ghost use Rattle.reader.specs.Told.{told-command, got, at-byte};
 use crate::faults::Malformed;
 use crate::sentence::Command;
@@ -206,7 +207,7 @@ fn finish(words: &mut Parts, ended: bool, end: usize) -> Result<(), Malformed>
 }
 
 // A command and nothing after it.
-fn alone<'a>(words: &mut Parts<'a>, ended: bool, end: usize) -> Result<Command<'a>, Malformed>
+fn command_alone<'a>(words: &mut Parts<'a>, ended: bool, end: usize) -> Result<Command<'a>, Malformed>
     ensures { λ r. ⌜ at-byte told-command r ≡ closed ended end (done (command-at end (todo (now (words .entry))))) ⌝ }
 {
     let asked = command(words, end)?;
@@ -214,21 +215,30 @@ fn alone<'a>(words: &mut Parts<'a>, ended: bool, end: usize) -> Result<Command<'
     Ok(asked)
 }
 
+// The header and nothing after it.
+fn header_alone(words: &mut Parts, ended: bool, end: usize) -> Result<(), Malformed>
+    ensures { λ r. ⌜ at-byte (λ x. x) r ≡ closed ended end (done (header-at end (todo (now (words .entry))))) ⌝ }
+{
+    header(words, end)?;
+    finish(words, ended, end)
+}
+
 // A line of the text; `ended` says whether a line feed ends it.
 pub fn parse<'a>(line: &'a [u8], ended: bool) -> Result<Command<'a>, Malformed>
-    ensures { λ r. ⌜ at-byte told-command r ≡ command-line (now (line .entry)) ended ⌝ }
+    ensures value { λ r. ⌜ at-byte told-command r ≡ command-line (now (line .entry)) ended ⌝ }
+    ensures place { λ r. ⌜ fault-of (at-byte told-command r) ≡ line-fault patterns (now (line .entry)) ended ⌝ }
 {
     let end = line.len() + 1;
     let mut words = Part::whole(line).split(b' ');
-    alone(&mut words, ended, end)
+    command_alone(&mut words, ended, end)
 }
 
 // The first line of the text.
 pub fn parse_header(line: &[u8], ended: bool) -> Result<(), Malformed>
-    ensures { λ r. ⌜ at-byte (λ x. x) r ≡ first-line (now (line .entry)) ended ⌝ }
+    ensures value { λ r. ⌜ at-byte (λ x. x) r ≡ first-line (now (line .entry)) ended ⌝ }
+    ensures place { λ r. ⌜ fault-of (at-byte (λ x. x) r) ≡ line-fault header-patterns (now (line .entry)) ended ⌝ }
 {
     let end = line.len() + 1;
     let mut words = Part::whole(line).split(b' ');
-    header(&mut words, end)?;
-    finish(&mut words, ended, end)
+    header_alone(&mut words, ended, end)
 }
