@@ -1,3 +1,4 @@
 pub mod Enrolling
 pub mod Firsts
+pub mod Sound
 pub mod Spellings

@@ -26,6 +26,7 @@ use Rattle.reader.specs.declared.tokens.Verb.the-variants as verb
 use Rattle.reader.specs.Tokens.{Tok, one, role, link, number, mark, token-of}
 use Rattle.reader.specs.Verbs.{verb-of}
 use Rattle.reader.specs.Grammar.{Command, enrol, add, withdraw, Got, then, picked, fit, a-role, a-number, a-sign, a-word, just, role-in, weight-at, second-at, body-by, body-at, statement-at, weighed-at, credential-at, command-by, command-at, header-at, only, done, closed, line-by, command-line, first-line}
+use Rattle.reader.proofs.Chains.{then-then}
 use Rattle.reader.specs.Patterns.{Wanted, this, any, ENTITY, ROLE, LINKED, NUMBER, sign, fits, Pattern, patterns, header-patterns, left-of, none, fault, unless-ended, line-fault, fault-of, names-entity, names-linked}
 
 -- g fails where the words ws leave the patterns ps
@@ -72,10 +73,6 @@ made : {X Y : Type 0} (g : Got X) (k : X → Y) → fault-of (done (then g (λ x
 made (Err e) k = refl
 made (Ok (x, [])) k = refl
 made (Ok (x, w ∷ ws)) k = refl
-
-then-then : {X Y Z : Type 0} (g : Got X) (f : X → List Placed → Got Y) (k : Y → List Placed → Got Z) → then (then g f) k ≡ then g (λ x ws. then (f x ws) k)
-then-then (Err e) f k = refl
-then-then (Ok p) f k = refl
 
 weight : (end : ℕ) (ws : List Placed) → Agrees end (weight-at end ws) ((sign Colon ∷ NUMBER ∷ NUMBER ∷ []) ∷ []) ws
 weight end ws =

@@ -7,3 +7,4 @@ pub mod Spelling
 pub mod Calls
 pub mod Answers
 pub mod Patterns
+pub mod RoundTrip

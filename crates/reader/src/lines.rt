@@ -1,12 +1,15 @@
 // A line looked up in the register and obeyed.
 ghost use mathlib.Core.Path.{_≡_};
 ghost use Rattle.words.specs.Cursor.{told};
+ghost use mathlib.Core.List.{List};
+ghost use Rattle.book.specs.Plain.{Call, fed};
 ghost use Rattle.book.specs.Kept.{entities, role-names, plain};
 ghost use Rattle.reader.specs.Sentences.{role-by, phrase-by, sentence-by};
 ghost use Rattle.reader.specs.Grammar.{add, withdraw};
 ghost use Rattle.reader.specs.Calls.{known, known-role, known-body, known-claim, outcome-of, outcome, next-of, next-line};
 ghost use Rattle.reader.specs.Told.{unknown-at};
 ghost use Rattle.reader.specs.Answers.{line-said, Stands-after-line};
+ghost use Rattle.reader.specs.RoundTrip.{SpelledBack, ReadBack};
 use book::Book;
 use book::Enrolled;
 use book::Register;
@@ -116,6 +119,8 @@ pub fn read(
     ensures answers { λ r. ⌜ line-said r ≡ outcome (plain (now (register .entry)) (now (book .entry))) (now (line .entry)) ended ⌝ }
     ensures changes { λ _. ⌜ plain (now (register .exit)) (now (book .exit)) ≡ next-line (plain (now (register .entry)) (now (book .entry))) (now (line .entry)) ended ⌝ }
     ensures uses { λ _. ⌜ Stands-after-line (plain (now (register .entry)) (now (book .entry))) (now (line .entry)) ended (plain (now (register .exit)) (now (book .exit))) ⌝ }
+    ensures spelled_back { λ _. ⌜ SpelledBack (plain (now (register .entry)) (now (book .entry))) (now (line .entry)) ended ⌝ }
+    ensures read_back { λ _. ⌜ ((past : List Call) → ReadBack (fed past)) ⌝ }
 {
     match parse(line, ended)? {
         Command::Enrol(name) => Ok(Reply::Enrolled(register.enrol(name.text)?)),

@@ -9,6 +9,7 @@ ghost use lib.ListN.{length};
 ghost use Rattle.std.specs.Finite.{nth};
 ghost use Rattle.std.specs.Of.Vec.{vec-len, vec-items, vec-cap};
 ghost use Rattle.std.specs.Options.{mapped};
+ghost use Rattle.std.specs.Slices.{found};
 ghost use Rattle.std.specs.Vec.{made};
 ghost use Rattle.std.specs.shelf.Text.{sameBytes};
 ghost use Rattle.book.specs.declared.store.Book.{Book as AnyBook};
@@ -54,7 +55,8 @@ fn number_of(names: &[Name], word: &[u8]) -> Option<u8>
 }
 
 fn spelling_of(names: &[Name], n: u8) -> Option<&[u8]>
-    ensures { λ r. ⌜ mapped now r ≡ nth (map spelled (now (names .entry))) n ⌝ }
+    ensures value { λ r. ⌜ mapped now r ≡ nth (map spelled (now (names .entry))) n ⌝ }
+    ensures short { λ r. ⌜ found r (λ s. length (now s) ≤ 24) ⌝ }
 {
     let at = n as usize;
     if at < names.len() {
@@ -113,13 +115,15 @@ impl Register {
     }
 
     pub fn spell_entity(&self, e: Entity) -> Option<&[u8]>
-        ensures { λ r. ⌜ mapped now r ≡ nth (entities (now (self .entry))) (e .0) ⌝ }
+        ensures value { λ r. ⌜ mapped now r ≡ nth (entities (now (self .entry))) (e .0) ⌝ }
+        ensures short { λ r. ⌜ found r (λ s. length (now s) ≤ 24) ⌝ }
     {
         spelling_of(self.entities.as_slice(), e.0)
     }
 
     pub fn spell_role_name(&self, r: RoleName) -> Option<&[u8]>
-        ensures { λ s. ⌜ mapped now s ≡ nth (role-names (now (self .entry))) (r .0) ⌝ }
+        ensures value { λ s. ⌜ mapped now s ≡ nth (role-names (now (self .entry))) (r .0) ⌝ }
+        ensures short { λ s. ⌜ found s (λ w. length (now w) ≤ 24) ⌝ }
     {
         spelling_of(self.role_names.as_slice(), r.0)
     }

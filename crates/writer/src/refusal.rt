@@ -1,0 +1,6 @@
+// What write refuses. `number` in specs/Written.antt gives each its number.
+#[derive(Clone, Copy, PartialEq, Eq, Debug)]
+pub enum WriteRefusal {
+    NotEnrolled,
+    BufferTooShort,
+}
