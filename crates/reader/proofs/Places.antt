@@ -141,8 +141,8 @@ weighed end ws =
     ∙ statement end (sign Colon ∷ NUMBER ∷ NUMBER ∷ []) (λ s ws. then (weighed-at end (s .body) ws) (λ b ws. Ok (record { head = s .head; body = b }, ws)))
     (λ h. record {
       member = λ x ws.
-      made (then (weight-at end ws) (λ w ws. Ok (Member x w, ws))) (λ b. record { head = h; body = b })
-      ∙ made (weight-at end ws) (λ w. Member x w) ∙ weight end ws;
+          made (then (weight-at end ws) (λ w ws. Ok (Member x w, ws))) (λ b. record { head = h; body = b })
+          ∙ made (weight-at end ws) (λ w. Member x w) ∙ weight end ws;
       delegation = λ b ws. ends end _ ws;
       linked = λ b t ws. ends end _ ws;
       intersection = λ b c ws. ends end _ ws;

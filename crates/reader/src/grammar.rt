@@ -13,6 +13,7 @@ use crate::sentence::Phrase;
 use crate::sentence::RoleText;
 use crate::sentence::Sentence;
 use crate::tokens::Sign;
+use crate::tokens::SignPartialEq;
 use crate::tokens::Token;
 use crate::tokens::Verb;
 use crate::tokens::is;
@@ -21,7 +22,6 @@ use crate::tokens::read_verb;
 use credential::Record;
 use words::Part;
 use words::Parts;
-use crate::tokens::SignPartialEq;
 
 fn role<'a>(words: &mut Parts<'a>, end: usize) -> Result<RoleText<Part<'a>>, Malformed>
     ensures { λ r. ⌜ got (role-by told) r (todo (now (words .exit))) ≡ fit a-role end (todo (now (words .entry))) ⌝ }
@@ -207,7 +207,11 @@ fn finish(words: &mut Parts, ended: bool, end: usize) -> Result<(), Malformed>
 }
 
 // A command and nothing after it.
-fn command_alone<'a>(words: &mut Parts<'a>, ended: bool, end: usize) -> Result<Command<'a>, Malformed>
+fn command_alone<'a>(
+    words: &mut Parts<'a>,
+    ended: bool,
+    end: usize,
+) -> Result<Command<'a>, Malformed>
     ensures { λ r. ⌜ at-byte told-command r ≡ closed ended end (done (command-at end (todo (now (words .entry))))) ⌝ }
 {
     let asked = command(words, end)?;

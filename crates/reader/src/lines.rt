@@ -10,6 +10,16 @@ ghost use Rattle.reader.specs.Calls.{known, known-role, known-body, known-clai
 ghost use Rattle.reader.specs.Told.{unknown-at};
 ghost use Rattle.reader.specs.Answers.{line-said, Stands-after-line};
 ghost use Rattle.reader.specs.RoundTrip.{SpelledBack, ReadBack};
+use crate::faults::FromMalformed;
+use crate::faults::FromRefusal;
+use crate::faults::FromUnknown;
+use crate::faults::ReadFault;
+use crate::faults::Unknown;
+use crate::grammar::parse;
+use crate::sentence::Command;
+use crate::sentence::Phrase;
+use crate::sentence::RoleText;
+use crate::sentence::Sentence;
 use book::Book;
 use book::Enrolled;
 use book::Register;
@@ -19,17 +29,7 @@ use credential::Entity;
 use credential::Record;
 use credential::Role;
 use credential::RoleName;
-use crate::faults::ReadFault;
-use crate::faults::Unknown;
-use crate::grammar::parse;
-use crate::sentence::Command;
-use crate::sentence::Phrase;
-use crate::sentence::RoleText;
-use crate::sentence::Sentence;
 use words::Part;
-use crate::faults::FromMalformed;
-use crate::faults::FromRefusal;
-use crate::faults::FromUnknown;
 
 // What the call that a line makes answers.
 #[derive(Clone, Copy)]
@@ -93,7 +93,11 @@ fn claim<W: Copy>(register: &Register, sentence: Sentence<Part, W>) -> Result<Cl
     Ok(Claim { head, body })
 }
 
-fn add(register: &Register, book: &mut Book, sentence: Sentence<Part, Record>) -> Result<Reply, ReadFault>
+fn add(
+    register: &Register,
+    book: &mut Book,
+    sentence: Sentence<Part, Record>,
+) -> Result<Reply, ReadFault>
     ensures answers { λ r. ⌜ line-said r ≡ outcome-of (plain (now (register .entry)) (now (book .entry))) (add (sentence-by told (sentence .entry))) ⌝ }
     ensures changes { λ _. ⌜ plain (now (register .entry)) (now (book .exit)) ≡ next-of (plain (now (register .entry)) (now (book .entry))) (add (sentence-by told (sentence .entry))) ⌝ }
 {
@@ -101,7 +105,11 @@ fn add(register: &Register, book: &mut Book, sentence: Sentence<Part, Record>) -
     Ok(Reply::Added(book.add(register, credential)?))
 }
 
-fn withdraw(register: &Register, book: &mut Book, sentence: Sentence<Part, ()>) -> Result<Reply, ReadFault>
+fn withdraw(
+    register: &Register,
+    book: &mut Book,
+    sentence: Sentence<Part, ()>,
+) -> Result<Reply, ReadFault>
     ensures answers { λ r. ⌜ line-said r ≡ outcome-of (plain (now (register .entry)) (now (book .entry))) (withdraw (sentence-by told (sentence .entry))) ⌝ }
     ensures changes { λ _. ⌜ plain (now (register .entry)) (now (book .exit)) ≡ next-of (plain (now (register .entry)) (now (book .entry))) (withdraw (sentence-by told (sentence .entry))) ⌝ }
 {

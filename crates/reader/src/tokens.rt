@@ -5,9 +5,9 @@ ghost use Rattle.std.specs.shelf.Text.{sameBytes};
 ghost use Rattle.words.specs.Cursor.{told, Fits};
 ghost use Rattle.reader.specs.Tokens.{said, sign-of, single, token-of, Texts};
 ghost use Rattle.reader.specs.Verbs.{verb-of};
+use crate::sentence::RoleText;
 use book::store::names::is_entity;
 use book::store::names::is_role_name;
-use crate::sentence::RoleText;
 use words::Part;
 use words::read_integer;
 
@@ -101,7 +101,11 @@ pub(crate) fn read_token<'a>(word: Part<'a>) -> Option<Token<'a>>
         }
         return None;
     };
-    if parts.next().is_none() && is_entity(entity.text) && is_role_name(name.text) && is_role_name(last.text) {
+    if parts.next().is_none()
+        && is_entity(entity.text)
+        && is_role_name(name.text)
+        && is_role_name(last.text)
+    {
         return Some(Token::Link(RoleText { entity, name }, last));
     }
     None

@@ -33,7 +33,10 @@ impl fmt::Display for Printed as PrintedDisplay {
 }
 
 // What a line prints: nothing where it is accepted.
-pub(crate) fn print_reply(out: &mut String, reply: Result<Reply, ReadFault>) -> Result<(), AllocError>
+pub(crate) fn print_reply(
+    out: &mut String,
+    reply: Result<Reply, ReadFault>,
+) -> Result<(), AllocError>
     ensures { λ r. ⌜ made r (λ _. string-bytes (now (out .exit)) ≡ string-bytes (now (out .entry)) ++ printed (line-said reply)) ⌝ }
 {
     match reply {

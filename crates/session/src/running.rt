@@ -8,19 +8,19 @@ ghost use Rattle.reader.specs.Told.{at-byte};
 ghost use Rattle.session.specs.Transcript.{part-line, header, others, transcript};
 ghost use Rattle.session.specs.State.{state};
 ghost use Rattle.session.specs.Turns.{left-lines, Answered};
-use book::Book;
-use book::Register;
 use crate::printing::print_fault;
 use crate::printing::print_reply;
 use crate::state::Session;
+use book::Book;
+use book::Register;
 use reader::Malformed;
+use reader::faults::FromMalformed;
 use reader::grammar::parse_header;
 use reader::lines::read;
 use std::alloc::AllocError;
 use std::alloc::Global;
 use words::Part;
 use words::Parts;
-use reader::faults::FromMalformed;
 
 // An input may have at most this many bytes.
 pub const MOST_BYTES: usize = 32_768;

@@ -5,7 +5,7 @@ use book::store::NAME_LENGTH;
 mod pushes;
 
 // The longest statement is `A.r <- B.s & C.t`: three roles, and 7 bytes between them.
-const CAPACITY: usize = 3 * (2 * NAME_LENGTH + 1) + 7;
+pub const CAPACITY: usize = 3 * (2 * NAME_LENGTH + 1) + 7;
 
 // A text that is being made up: the first `len` of its bytes.
 #[derive(Drop)]

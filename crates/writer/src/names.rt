@@ -7,6 +7,7 @@ ghost use Rattle.std.specs.Slices.{found};
 ghost use Rattle.book.specs.Plain.{role-enrolled, body-enrolled, enrolled};
 ghost use Rattle.book.specs.Kept.{entities, role-names};
 ghost use Rattle.reader.specs.Sentences.{role-by, phrase-by, sentence-by};
+ghost use Rattle.reader.specs.RoundTrip.{BodyFits};
 ghost use Rattle.reader.specs.Spelling.{named-role, named-body, named};
 ghost use Rattle.writer.specs.Names.{names-only, short-role, short-phrase, short-sentence};
 use book::Register;
@@ -30,6 +31,7 @@ fn name_role<'a>(register: &'a Register, role: Role) -> Option<RoleText<&'a [u8]
 fn name_body<'a>(register: &'a Register, body: Body<Record>) -> Option<Phrase<&'a [u8], Record>>
     ensures value { λ r. ⌜ mapped (phrase-by now) r ≡ whenTrue (body-enrolled (length (entities (now (register .entry)))) (length (role-names (now (register .entry)))) body) (named-body (names-only (now (register .entry))) body) ⌝ }
     ensures short { λ r. ⌜ found r (λ s. short-phrase (phrase-by now s)) ⌝ }
+    ensures numbers { λ _. ⌜ BodyFits body ⌝ }
 {
     match body {
         Body::Member(x, weight) => Some(Phrase::Member(register.spell_entity(x)?, weight)),
@@ -51,6 +53,7 @@ pub(crate) fn name_credential<'a>(
 ) -> Option<Sentence<&'a [u8], Record>>
     ensures value { λ r. ⌜ mapped (sentence-by now) r ≡ whenTrue (enrolled (names-only (now (register .entry))) (now (credential .entry))) (named (names-only (now (register .entry))) (now (credential .entry))) ⌝ }
     ensures short { λ r. ⌜ found r (λ s. short-sentence (sentence-by now s)) ⌝ }
+    ensures numbers { λ r. ⌜ found r (λ _. BodyFits (now (credential .entry) .body)) ⌝ }
 {
     let head = name_role(register, credential.head)?;
     let body = name_body(register, credential.body)?;
