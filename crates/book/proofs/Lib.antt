@@ -1,4 +1,5 @@
 pub mod Enrolling
 pub mod Firsts
+pub mod InForce
 pub mod Sound
 pub mod Spellings

@@ -1,4 +1,5 @@
-// Reads standard input, and prints what the session answers.
+// Reads standard input, and prints what the gate answers.
+use session::MOST_BYTES;
 use session::transcript;
 use std::io;
 use std::io::Read;
@@ -8,7 +9,7 @@ fn main(rt: LibcRuntime) -> io::Result<()> {
     let heap = rt.alloc();
     let mut input = Vec::new(heap);
     // One byte more than an input may have tells that it is too long.
-    rt.stdin().take(32_769).read_to_end(&mut input)?;
+    rt.stdin().take(MOST_BYTES as u64 + 1).read_to_end(&mut input)?;
     let out = transcript(heap, input.as_slice())?;
     rt.stdout().write_all(out.as_bytes())
 }

@@ -29,9 +29,14 @@ some-texts : (ws : List Placed) → not (none ws) ≡ some (texts ws)
 some-texts [] = refl
 some-texts (w ∷ ws) = refl
 
-pub texts-placed : (n : ℕ) (ls : List (List ℕ)) → texts (placed n ls) ≡ ls
+texts-placed : (n : ℕ) (ls : List (List ℕ)) → texts (placed n ls) ≡ ls
 texts-placed n [] = refl
 texts-placed n (l ∷ ls) = ap (λ k. l ∷ k) (texts-placed (n + length l + 1) ls)
+
+-- the parts of a whole input are its lines
+pub whole-lines : (input text : List ℕ) (byte : ℕ) (ws : List Placed) → (text ≡ input) × (byte ≡ 1) → ws ≡ placed byte (split 10 text) → lines-of (texts ws) ≡ lines input
+whole-lines input text byte ws whole e =
+    ap (λ l. lines-of (texts l)) e ∙ (λ i. lines-of (texts (placed (whole .1 i) (split 10 (whole .0 i))))) ∙ ap lines-of (texts-placed 1 (split 10 input))
 
 -- the part w was answered, and ws are left of it and them
 module _ (p q : Plain) (out new : List ℕ) (w : Placed) (ws all : List Placed) (is : all ≡ w ∷ ws) (h : Answered p (part-line (w .text) (not (none ws))) out q new) where
@@ -51,17 +56,17 @@ module _ (p q : Plain) (out new : List ℕ) (w : Placed) (ws all : List Placed) 
       let one = part-line (w .text) (not (none ws)) in
       ap (λ r. after r ls) (h .changes) ∙ sym (after-append p one ls) ∙ ap (after p) (sym parted)
 
+pub fits : (input : List ℕ) → length input ≤ 32768 → (out : List ℕ) → out ≡ fitting input out
+fits input short out = sym (cond-false _ _ _ (lt-leb 32769 (length input) (omega arith)))
+
 -- the lines ls of an input that is not too long
 module _ (input : List ℕ) (short : length input ≤ 32768) (ls : List Line) (same : ls ≡ lines input) where
-  fits : (out : List ℕ) → out ≡ fitting input out
-  fits out = sym (cond-false _ _ _ (lt-leb 32769 (length input) (omega arith)))
-
   pub good-run : header ls ≡ Ok tt → (p q : Plain) (rest : List Line) (out new : List ℕ) → p ≡ nothing → rest ≡ others ls → out ≡ [] → Answered p rest out q new → new ≡ transcript input
   good-run good p q rest out new start left none h =
       h .prints ∙ (λ i. none i ++ answers (start i) (left i)) ∙ ap (λ r. headed r (answers nothing (others ls))) (sym good)
-      ∙ ap (λ k. headed (header k) (answers nothing (others k))) same ∙ fits (headed (header (lines input)) (answers nothing (others (lines input))))
+      ∙ ap (λ k. headed (header k) (answers nothing (others k))) same ∙ fits input short (headed (header (lines input)) (answers nothing (others (lines input))))
 
   pub bad-run : (byte : ℕ) → header ls ≡ Err byte → (out new : List ℕ) → out ≡ [] → new ≡ out ++ bad-header byte → new ≡ transcript input
   bad-run byte bad out new none e =
       e ∙ ap (λ o. o ++ bad-header byte) none ∙ ap (λ r. headed r (answers nothing (others ls))) (sym bad)
-      ∙ ap (λ k. headed (header k) (answers nothing (others k))) same ∙ fits (headed (header (lines input)) (answers nothing (others (lines input))))
+      ∙ ap (λ k. headed (header k) (answers nothing (others k))) same ∙ fits input short (headed (header (lines input)) (answers nothing (others (lines input))))

@@ -47,7 +47,7 @@ impl Session {
         print_reply(out, reply)
     }
 
-    fn answer_all(&mut self, lines: &mut Parts, out: &mut String) -> Result<(), AllocError>
+    pub(crate) fn answer_all(&mut self, lines: &mut Parts, out: &mut String) -> Result<(), AllocError>
         ensures { λ r. ⌜ made r (λ _. Answered (state (now (self .entry))) (left-lines (now (lines .entry))) (string-bytes (now (out .entry))) (state (now (self .exit))) (string-bytes (now (out .exit)))) ⌝ }
     {
         while let Some(line) = lines.next() {
@@ -59,7 +59,7 @@ impl Session {
 }
 
 // The first line; the others are left.
-fn check_header(lines: &mut Parts) -> Result<(), Malformed>
+pub(crate) fn check_header(lines: &mut Parts) -> Result<(), Malformed>
     ensures value { λ r. ⌜ at-byte (λ x. x) r ≡ header (left-lines (now (lines .entry))) ⌝ }
     ensures rest { λ _. ⌜ left-lines (now (lines .exit)) ≡ others (left-lines (now (lines .entry))) ⌝ }
 {

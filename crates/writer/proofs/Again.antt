@@ -38,6 +38,10 @@ module _ (p : Plain) (c : Credential) (buffer new : List ℕ) (left : new ≡ af
           let len : n ≡ length (text p c) = cc in
           (e, (λ i. take (len i) (left i)) ∙ take-at (text p c) (drop (length (text p c)) buffer) (length (text p c)) refl)
 
+  pub holds : (r : Result ℕ WriteRefusal) → said r ≡ answer p c buffer → made r (λ n. take n new ≡ text p c)
+  holds (Err e) told = tt
+  holds (Ok n) told = written n told .1
+
   pub read-again : BodyFits (c .body) → (r : Result ℕ WriteRefusal) → said r ≡ answer p c buffer → made r (λ n. ReadAgain p c (take n new))
   read-again fits (Err e) told = tt
   read-again fits (Ok n) told = λ past stands.

@@ -22,6 +22,8 @@ pub fn write(
 ) -> Result<usize, WriteRefusal>
     ensures answers { λ r. ⌜ ((b : AnyBook) → said r ≡ answer (plain (now (register .entry)) b) (now (credential .entry)) (now (buffer .entry))) ⌝ }
     ensures leaves { λ r. ⌜ ((b : AnyBook) → now (buffer .exit) ≡ after (plain (now (register .entry)) b) (now (credential .entry)) (now (buffer .entry))) ⌝ }
+    ensures holds { λ r. ⌜ ((b : AnyBook) → made r (λ n. take n (now (buffer .exit)) ≡ text (plain (now (register .entry)) b) (now (credential .entry)))) ⌝ }
+    ensures within { λ r. ⌜ made r (λ n. n ≤ length (now (buffer .exit))) ⌝ }
     ensures short { λ r. ⌜ ((b : AnyBook) → enrolled (plain (now (register .entry)) b) (now (credential .entry)) ≡ true → length (text (plain (now (register .entry)) b) (now (credential .entry))) ≤ 154) ⌝ }
     ensures read_back { λ r. ⌜ ((b : AnyBook) → made r (λ n. ReadAgain (plain (now (register .entry)) b) (now (credential .entry)) (take n (now (buffer .exit))))) ⌝ }
 {
@@ -36,6 +38,7 @@ pub fn write(
 fn place(text: &[u8], buffer: &mut [u8]) -> Result<usize, WriteRefusal>
     ensures answers { λ r. ⌜ said r ≡ room-answer (now (text .entry)) (now (buffer .entry)) ⌝ }
     ensures leaves { λ r. ⌜ now (buffer .exit) ≡ unless-refused (said r) (now (buffer .entry)) (over (now (text .entry)) (now (buffer .entry))) ⌝ }
+    ensures within { λ r. ⌜ made r (λ n. n ≤ length (now (buffer .exit))) ⌝ }
 {
     let len = text.len();
     if buffer.len() < len {

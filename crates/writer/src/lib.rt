@@ -9,4 +9,5 @@ mod spelling;
 mod tests;
 
 pub use call::write;
+pub use draft::CAPACITY;
 pub use refusal::WriteRefusal;

@@ -3,7 +3,6 @@ ghost use mathlib.Core.Path.{_≡_};
 ghost use mathlib.Core.List.{[]};
 ghost use lib.Dec.{ltb};
 ghost use lib.ListN.{length};
-ghost use Rattle.std.specs.Finite.{nth};
 ghost use Rattle.std.specs.Vec.{made};
 ghost use Rattle.credential.specs.Same.{says};
 ghost use Rattle.book.specs.Plain.{first, role-enrolled, body-enrolled, claim-enrolled, record-in-range, in-range, answer, next, add, withdraw};
@@ -85,10 +84,11 @@ impl Book {
         Ok(Book { credentials })
     }
 
-    pub fn credential(&self, place: usize) -> Option<Credential>
-        ensures { λ r. ⌜ r ≡ nth (listed (now (self .entry))) place ⌝ }
+    // The credentials in force, in order of place.
+    pub fn credentials(&self) -> &[Credential]
+        ensures { λ r. ⌜ now r ≡ listed (now (self .entry)) ⌝ }
     {
-        self.credentials.get(place).copied()
+        self.credentials.as_slice()
     }
 
     // The place of the statement, or the count where it is not in force.

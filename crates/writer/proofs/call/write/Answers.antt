@@ -3,7 +3,7 @@ use mathlib.Core.Path.{_≡_}
 use Rattle.book.specs.declared.store.Book.{Book}
 use Rattle.book.specs.Kept.{plain}
 use Rattle.writer.specs.Written.{said, answer, after}
-use Rattle.writer.proofs.Again.{read-again, short-text}
+use Rattle.writer.proofs.Again.{holds, read-again, short-text}
 use Rattle.writer.proofs.call.write.Needs as need
 
 pub returns : need.returns
@@ -17,6 +17,8 @@ returns c =
     record {
       answers = answers;
       leaves = leaves;
+      holds = λ b. holds (plain g b) credential old new (leaves b) (c .place .result) (answers b);
+      within = c .place .ensures .within;
       short = λ b. short-text (c .spell-draft .result) _ _ _ (c .spell-draft .ensures) (c .in-Some .ensures tt .value);
       read-back = λ b. read-again (plain g b) credential old new (leaves b) (c .in-Some .ensures tt .numbers) (c .place .result) (answers b);
     }
