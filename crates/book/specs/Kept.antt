@@ -61,5 +61,5 @@ abbrev pub Stands-after : Plain → Call → Plain → Type 0
 Stands-after before call after = (past : List Call) → before ≡ fed past → after ≡ fed (call ∷ past)
 
 -- the number of a name, if it is enrolled
-abbrev pub number-in : List (List ℕ) → List ℕ → Option ℕ
-number-in ws w = cond (among (sameBytes w) ws) (Some (first (sameBytes w) ws)) None
+abbrev pub name-number : List (List ℕ) → List ℕ → Option ℕ
+name-number ws w = cond (among (sameBytes w) ws) (Some (first (sameBytes w) ws)) None

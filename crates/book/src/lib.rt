@@ -7,3 +7,5 @@ pub use refusal::Kind;
 pub use refusal::Refusal;
 pub use store::Book;
 pub use store::Register;
+pub use store::names::is_entity;
+pub use store::names::is_role_name;

@@ -20,7 +20,6 @@ use Rattle.credential.specs.declared.Body.the-variants as body
 use Rattle.credential.specs.declared.Claim.{Claim}
 use Rattle.book.specs.Names.{entity, role-name}
 use Rattle.book.specs.Plain.{Plain, first, among, role-enrolled, body-enrolled, claim-enrolled, enrolled}
-use Rattle.book.specs.Kept.{number-in}
 use Rattle.book.proofs.Sound.{SoundNames, Sound}
 use Rattle.reader.specs.declared.sentence.RoleText.{RoleText}
 use Rattle.reader.specs.declared.sentence.Phrase.{Phrase}

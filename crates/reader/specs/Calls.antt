@@ -13,7 +13,7 @@ use Rattle.credential.specs.declared.Body.the-variants as body
 use Rattle.credential.specs.declared.Claim.{Claim}
 use Rattle.book.specs.Plain.{Plain, Call, Answer, answer, next}
 use Rattle.book.specs.Plain as plain
-use Rattle.book.specs.Kept.{number-in}
+use Rattle.book.specs.Kept.{name-number}
 use Rattle.reader.specs.declared.sentence.RoleText.{RoleText}
 use Rattle.reader.specs.declared.sentence.Phrase.{Phrase}
 use Rattle.reader.specs.declared.sentence.Phrase.the-variants.{Member, Delegation, Link, Intersection}
@@ -30,7 +30,7 @@ known-by byte (Some n) = Ok n
 known-by byte None = Err byte
 
 abbrev pub known : List (List ℕ) → Placed → Result ℕ ℕ
-known names w = known-by (w .byte) (number-in names (w .text))
+known names w = known-by (w .byte) (name-number names (w .text))
 
 -- a statement by the numbers of its names, which are looked up from left to right among the
 -- entities E and the role names R

@@ -6,8 +6,8 @@ ghost use Rattle.words.specs.Cursor.{told, Fits};
 ghost use Rattle.reader.specs.Tokens.{said, sign-of, single, token-of, Texts};
 ghost use Rattle.reader.specs.Verbs.{verb-of};
 use crate::sentence::RoleText;
-use book::store::names::is_entity;
-use book::store::names::is_role_name;
+use book::is_entity;
+use book::is_role_name;
 use words::Part;
 use words::read_integer;
 

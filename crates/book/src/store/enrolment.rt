@@ -14,7 +14,7 @@ ghost use Rattle.std.specs.Vec.{made};
 ghost use Rattle.std.specs.shelf.Text.{sameBytes};
 ghost use Rattle.book.specs.declared.store.Book.{Book as AnyBook};
 ghost use Rattle.book.specs.Plain.{answer, next, enrol, among};
-ghost use Rattle.book.specs.Kept.{spelled, entities, role-names, plain, enrol-said, Stands-after, number-in};
+ghost use Rattle.book.specs.Kept.{spelled, entities, role-names, plain, enrol-said, Stands-after, name-number};
 ghost use Rattle.book.specs.Puts.{Puts};
 use super::names::kind_of;
 use super::names::place_of;
@@ -48,7 +48,7 @@ fn enrol_in(names: &mut Vec<Name>, limit: usize, word: &[u8]) -> Result<usize, R
 // The number of the word among these names, if it is one of them.
 fn number_of(names: &[Name], word: &[u8]) -> Option<u8>
     requires { ⌜ length (now names) ≤ 64 ⌝ }
-    ensures { λ r. ⌜ r ≡ number-in (map spelled (now (names .entry))) (now (word .entry)) ⌝ }
+    ensures { λ r. ⌜ r ≡ name-number (map spelled (now (names .entry))) (now (word .entry)) ⌝ }
 {
     let n = place_of(names, word);
     if n < names.len() { Some(n as u8) } else { None }
@@ -97,7 +97,7 @@ impl Register {
     }
 
     pub fn find_entity(&self, word: &[u8]) -> Option<Entity>
-        ensures { λ r. ⌜ mapped (λ e. e .0) r ≡ number-in (entities (now (self .entry))) (now (word .entry)) ⌝ }
+        ensures { λ r. ⌜ mapped (λ e. e .0) r ≡ name-number (entities (now (self .entry))) (now (word .entry)) ⌝ }
     {
         match number_of(self.entities.as_slice(), word) {
             Some(n) => Some(Entity(n)),
@@ -106,7 +106,7 @@ impl Register {
     }
 
     pub fn find_role_name(&self, word: &[u8]) -> Option<RoleName>
-        ensures { λ r. ⌜ mapped (λ e. e .0) r ≡ number-in (role-names (now (self .entry))) (now (word .entry)) ⌝ }
+        ensures { λ r. ⌜ mapped (λ e. e .0) r ≡ name-number (role-names (now (self .entry))) (now (word .entry)) ⌝ }
     {
         match number_of(self.role_names.as_slice(), word) {
             Some(n) => Some(RoleName(n)),
