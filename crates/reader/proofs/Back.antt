@@ -11,9 +11,7 @@ use Rattle.std.specs.declared.option.Option.{Option}
 use Rattle.std.specs.declared.option.Option.the-variants.{Some, None}
 use Rattle.std.specs.declared.result.Result.{Result}
 use Rattle.std.specs.declared.result.Result.the-variants.{Ok, Err}
-use Rattle.std.specs.shelf.Text.{sameBytes}
 use Rattle.std.specs.Written.{signed}
-use Rattle.std.proofs.shelf.Equals.{sameBytes-decides}
 use Rattle.words.specs.Split.{Placed, split, placed, rejoin}
 use Rattle.words.proofs.Laws.{rejoin-split}
 use Rattle.credential.specs.declared.Record.{Record}
@@ -28,11 +26,12 @@ use Rattle.reader.specs.declared.tokens.Verb.the-variants as verb
 use Rattle.reader.specs.Sentences.{role-by, phrase-by, sentence-by}
 use Rattle.reader.specs.Tokens.{Tok, one, role, link, number, mark, token-of, text, sign-text, Sound}
 use Rattle.reader.specs.Verbs.{verb-of}
-use Rattle.reader.specs.Grammar.{Command, enrol, add, withdraw, Got, then, picked, fit, role-in, number-in, same-sign, sign-in, a-role, a-number, a-sign, a-word, weight-at, second-at, body-by, body-at, statement-at, weighed-at, credential-at, command-by, command-at, only, done, closed, command-line}
+use Rattle.reader.specs.Grammar.{Command, enrol, add, withdraw, present, Got, then, picked, fit, role-in, number-in, same-sign, sign-in, a-role, a-number, a-sign, a-word, weight-at, second-at, body-by, body-at, statement-at, weighed-at, credential-at, command-by, command-at, only, done, closed, command-line}
 use Rattle.reader.specs.Spelling.{dotted, role-word, body-words, statement-words, weight-words, no-words, spelled, spelled-bare}
 use Rattle.reader.specs.RoundTrip.{Fits32}
 use Rattle.reader.proofs.Forth.{RoleOk, BodyOk, Good, Nothing}
 use Rattle.reader.proofs.Texts.{token-text}
+use Rattle.reader.proofs.Verbing.{verb-back}
 
 err-ok : {X E A : Type 0} {e : E} {x : X} → _≡_ {A = Result X E} (Err e) (Ok x) → A
 err-ok e = absurd (let z : _≡_ {A = ℕ} 0 1 = cc in omega arith)
@@ -223,25 +222,12 @@ credential-back end ws s e =
     subst (λ t. (texts ws ≡ statement-words weight-words (sentence-by plain t)) × Good Fits32 (sentence-by plain t)) (same .0)
     (h .front ∙ ap (λ l. role-word (role-by plain (a .0 .head)) ∷ codes "<-" ∷ l) (k .0 ∙ ap (λ l. body-words weight-words (phrase-by plain (b .0)) ++ texts l) (same .1) ∙ append-nil _), (h .head, k .1))
 
-abbrev verb-text : Verb → List ℕ
-verb-text verb.Enrol = codes "enrol"
-verb-text verb.Add = codes "add"
-verb-text verb.Withdraw = codes "withdraw"
-
-verb-back : (l : List ℕ) (v : Verb) → verb-of l ≡ Some v → l ≡ verb-text v
-verb-back l v e = go (sameBytes l (codes "enrol")) (sameBytes l (codes "add")) (sameBytes l (codes "withdraw")) refl refl refl e
-  where
-    go : (a b c : Bool) → sameBytes l (codes "enrol") ≡ a → sameBytes l (codes "add") ≡ b → sameBytes l (codes "withdraw") ≡ c → cond a (Some verb.Enrol) (cond b (Some verb.Add) (cond c (Some verb.Withdraw) None)) ≡ Some v → l ≡ verb-text v
-    go true b c p q r e = let is : verb.Enrol ≡ v = cc in sameBytes-decides l (codes "enrol") .0 p ∙ ap verb-text is
-    go false true c p q r e = let is : verb.Add ≡ v = cc in sameBytes-decides l (codes "add") .0 q ∙ ap verb-text is
-    go false false true p q r e = let is : verb.Withdraw ≡ v = cc in sameBytes-decides l (codes "withdraw") .0 r ∙ ap verb-text is
-    go false false false p q r e = none-some e
-
 -- what is known of the words of a command
 abbrev CommandTook : List Placed → Command → Type 0
 CommandTook ws (enrol w) = Unit {0}
 CommandTook ws (add s) = (texts ws ≡ codes "add" ∷ statement-words weight-words (sentence-by plain s)) × Good Fits32 (sentence-by plain s)
 CommandTook ws (withdraw s) = (texts ws ≡ codes "withdraw" ∷ statement-words no-words (sentence-by plain s)) × Good Nothing (sentence-by plain s)
+CommandTook ws (present s) = (texts ws ≡ codes "present" ∷ statement-words weight-words (sentence-by plain s)) × Good Fits32 (sentence-by plain s)
 
 command-back : (end : ℕ) (ws : List Placed) (c : Command) → command-at end ws ≡ Ok (c, []) → CommandTook ws c
 command-back end [] c e = err-ok e
@@ -262,6 +248,11 @@ command-back end (w ∷ ws) c e = go (verb-of (w .text)) refl e
         let same = got-same (withdraw (a .0)) c (a .1) [] (a .3) in
         let k = bare-back ws (a .0) (statement-back end ws (a .0) [] (a .2 ∙ ap (λ l. Ok (a .0, l)) (same .1))) in
         subst (CommandTook (w ∷ ws)) (same .0) ((λ i. verb-back (w .text) verb.Withdraw f i ∷ k .0 i), k .1)
+    go (Some verb.Present) f e =
+        let a = then-back (credential-at end ws) (λ s ws. Ok (present s, ws)) (c, []) e in
+        let same = got-same (present (a .0)) c (a .1) [] (a .3) in
+        let k = credential-back end ws (a .0) (a .2 ∙ ap (λ l. Ok (a .0, l)) (same .1)) in
+        subst (CommandTook (w ∷ ws)) (same .0) ((λ i. verb-back (w .text) verb.Present f i ∷ k .0 i), k .1)
 
 only-back : {X : Type 0} (g : Got X) (x : X) → done g ≡ Ok x → g ≡ Ok (x, [])
 only-back (Err e) x h = err-ok h
@@ -287,3 +278,6 @@ add-back bs ended s e = let k = line-back bs ended (add s) e in (joined bs _ (k 
 
 pub withdraw-back : (bs : List ℕ) (ended : Bool) (s : Sentence Placed (Unit {0})) → command-line bs ended ≡ Ok (withdraw s) → (bs ≡ codes "withdraw " ++ spelled-bare (sentence-by plain s)) × Good Nothing (sentence-by plain s)
 withdraw-back bs ended s e = let k = line-back bs ended (withdraw s) e in (joined bs _ (k .0), k .1)
+
+pub present-back : (bs : List ℕ) (ended : Bool) (s : Sentence Placed Record) → command-line bs ended ≡ Ok (present s) → (bs ≡ codes "present " ++ spelled (sentence-by plain s)) × Good Fits32 (sentence-by plain s)
+present-back bs ended s e = let k = line-back bs ended (present s) e in (joined bs _ (k .0), k .1)

@@ -22,7 +22,7 @@ use Rattle.reader.specs.declared.sentence.Phrase.the-variants.{Member, Delegat
 use Rattle.reader.specs.declared.sentence.Sentence.{Sentence}
 use Rattle.reader.specs.declared.tokens.Sign.the-variants.{Arrow, And, Colon}
 use Rattle.reader.specs.Tokens.{Tok, one, role, link, number, mark, token-of}
-use Rattle.reader.specs.Grammar.{Command, add, withdraw, Got, then, picked, fit, role-in, a-role, a-number, a-sign, weight-at, second-at, body-by, body-at, statement-at, weighed-at, credential-at, command-at, done, closed, command-line}
+use Rattle.reader.specs.Grammar.{Command, add, withdraw, present, Got, then, picked, fit, role-in, a-role, a-number, a-sign, weight-at, second-at, body-by, body-at, statement-at, weighed-at, credential-at, command-at, done, closed, command-line}
 use Rattle.reader.specs.Spelling.{dotted, role-word, body-words, statement-words, weight-words, no-words, spelled, spelled-bare}
 use Rattle.reader.specs.RoundTrip.{Fits32}
 use Rattle.reader.proofs.Chains.{then-then}
@@ -137,11 +137,18 @@ statement-forth end n s h =
     head-forth end n (s .head) (body-words no-words (s .body)) (h .0)
     ∙ ap (λ g. then g (λ b ws. Ok (record { head = role-at n (s .head); body = b }, ws))) (bare-forth end (n + length (role-word (s .head)) + 1 + 2 + 1) (s .body) (h .1))
 
+-- a statement after a verb v whose rule makes a command of it
+weighed-line : (v : List ℕ) → Lacks 32 v → (make : Sentence Placed Record → Command) → ((end : ℕ) (ws : List Placed) → command-at end (at 1 v ∷ ws) ≡ then (credential-at end ws) (λ s ws. Ok (make s, ws))) → (s : Sentence (List ℕ) Record) → Good Fits32 s → command-line (rejoin 32 (v ∷ statement-words weight-words s)) true ≡ Ok (make (sentence-from (1 + length v + 1) s))
+weighed-line v lack make rule s h =
+    let end = length (rejoin 32 (v ∷ statement-words weight-words s)) + 1 in
+    ap (λ l. closed true end (done (command-at end (placed 1 l)))) (split-only 32 v (statement-words weight-words s) (lack, statement-lacks weight-words Fits32 weight-lacks s h))
+    ∙ ap (λ g. closed true end (done g)) (rule end (placed (1 + length v + 1) (statement-words weight-words s)) ∙ ap (λ g. then g (λ s ws. Ok (make s, ws))) (credential-forth end (1 + length v + 1) s h))
+
 pub add-forth : (s : Sentence (List ℕ) Record) → Good Fits32 s → command-line (codes "add " ++ spelled s) true ≡ Ok (add (sentence-from 5 s))
-add-forth s h =
-    let end = length (codes "add " ++ spelled s) + 1 in
-    ap (λ l. closed true end (done (command-at end (placed 1 l)))) (split-only 32 (codes "add") (statement-words weight-words s) (((λ q. omega arith), ((λ q. omega arith), ((λ q. omega arith), tt))), statement-lacks weight-words Fits32 weight-lacks s h))
-    ∙ ap (λ g. closed true end (done (then g (λ s ws. Ok (add s, ws))))) (credential-forth end 5 s h)
+add-forth = weighed-line (codes "add") ((λ q. omega arith), ((λ q. omega arith), ((λ q. omega arith), tt))) add (λ end ws. refl)
+
+pub present-forth : (s : Sentence (List ℕ) Record) → Good Fits32 s → command-line (codes "present " ++ spelled s) true ≡ Ok (present (sentence-from 9 s))
+present-forth = weighed-line (codes "present") ((λ q. omega arith), ((λ q. omega arith), ((λ q. omega arith), ((λ q. omega arith), ((λ q. omega arith), ((λ q. omega arith), ((λ q. omega arith), tt))))))) present (λ end ws. refl)
 
 pub withdraw-forth : (s : Sentence (List ℕ) (Unit {0})) → Good Nothing s → command-line (codes "withdraw " ++ spelled-bare s) true ≡ Ok (withdraw (sentence-from 10 s))
 withdraw-forth s h =

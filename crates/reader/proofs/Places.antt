@@ -12,8 +12,6 @@ use Rattle.std.specs.declared.result.Result.{Result}
 use Rattle.std.specs.declared.result.Result.the-variants.{Ok, Err}
 use Rattle.std.specs.Options.{isSome}
 use Rattle.std.specs.shelf.Text.{sameBytes}
-use Rattle.std.proofs.shelf.Equals.{sameBytes-decides}
-use Rattle.std.proofs.shelf.Tests.{false≢true}
 use Rattle.words.specs.Split.{Placed, split, placed}
 use Rattle.credential.specs.declared.Record.{Record}
 use Rattle.reader.specs.declared.sentence.RoleText.{RoleText}
@@ -25,8 +23,9 @@ use Rattle.reader.specs.declared.tokens.Verb.{Verb}
 use Rattle.reader.specs.declared.tokens.Verb.the-variants as verb
 use Rattle.reader.specs.Tokens.{Tok, one, role, link, number, mark, token-of}
 use Rattle.reader.specs.Verbs.{verb-of}
-use Rattle.reader.specs.Grammar.{Command, enrol, add, withdraw, Got, then, picked, fit, a-role, a-number, a-sign, a-word, just, role-in, weight-at, second-at, body-by, body-at, statement-at, weighed-at, credential-at, command-by, command-at, header-at, only, done, closed, line-by, command-line, first-line}
+use Rattle.reader.specs.Grammar.{Command, enrol, add, withdraw, present, Got, then, picked, fit, a-role, a-number, a-sign, a-word, just, role-in, weight-at, second-at, body-by, body-at, statement-at, weighed-at, credential-at, command-by, command-at, header-at, only, done, closed, line-by, command-line, first-line}
 use Rattle.reader.proofs.Chains.{then-then}
+use Rattle.reader.proofs.Verbing.{verb-text, is-verb, verb-test}
 use Rattle.reader.specs.Patterns.{Wanted, this, any, ENTITY, ROLE, LINKED, NUMBER, sign, fits, Pattern, patterns, header-patterns, left-of, none, fault, unless-ended, line-fault, fault-of, names-entity, names-linked}
 
 -- g fails where the words ws leave the patterns ps
@@ -135,9 +134,9 @@ bare end ws =
     statement end [] (λ s ws. Ok (withdraw s, ws))
     (λ h. record { member = λ x ws. ends end _ ws; delegation = λ b ws. ends end _ ws; linked = λ b t ws. ends end _ ws; intersection = λ b c ws. ends end _ ws }) ws
 
-weighed : (end : ℕ) (ws : List Placed) → Agrees end (then (credential-at end ws) (λ s ws. Ok (add s, ws))) (starts ROLE (starts (sign Arrow) (bodies (sign Colon ∷ NUMBER ∷ NUMBER ∷ [])))) ws
-weighed end ws =
-    made (credential-at end ws) add
+weighed : (end : ℕ) (make : Sentence Placed Record → Command) (ws : List Placed) → Agrees end (then (credential-at end ws) (λ s ws. Ok (make s, ws))) (starts ROLE (starts (sign Arrow) (bodies (sign Colon ∷ NUMBER ∷ NUMBER ∷ [])))) ws
+weighed end make ws =
+    made (credential-at end ws) make
     ∙ statement end (sign Colon ∷ NUMBER ∷ NUMBER ∷ []) (λ s ws. then (weighed-at end (s .body) ws) (λ b ws. Ok (record { head = s .head; body = b }, ws)))
     (λ h. record {
       member = λ x ws.
@@ -167,39 +166,33 @@ abbrev withdraws : List Pattern
 withdraws = starts ROLE (starts (sign Arrow) (bodies []))
 
 -- the patterns of the verb that a word is
-abbrev by-verb : Bool → Bool → Bool → List Pattern
-by-verb a b c = cond a enrols [] ++ (cond b adds [] ++ cond c withdraws [])
+abbrev by-verb : Option Verb → List Pattern
+by-verb o = cond (is-verb verb.Enrol o) enrols [] ++ (cond (is-verb verb.Add o) adds [] ++ (cond (is-verb verb.Withdraw o) withdraws [] ++ cond (is-verb verb.Present o) adds []))
 
-left-verbs : (w : Placed) → left-of w patterns ≡ by-verb (sameBytes (w .text) (codes "enrol")) (sameBytes (w .text) (codes "add")) (sameBytes (w .text) (codes "withdraw"))
+-- the patterns that start with a verb, of which those left after w are taken
+left-verb : (w : Placed) (u : Verb) (ps : List Pattern) → left-of w (starts (this (verb-text u)) ps) ≡ cond (is-verb u (verb-of (w .text))) ps []
+left-verb w u ps = left-starts (this (verb-text u)) w ps ∙ ap (λ b. cond b ps []) (verb-test (w .text) u)
+
+left-verbs : (w : Placed) → left-of w patterns ≡ by-verb (verb-of (w .text))
 left-verbs w =
-    let e = starts (this (codes "enrol")) enrols in
-    let a = starts (this (codes "add")) adds in
-    let d = starts (this (codes "withdraw")) withdraws in
-    left-append w e (a ++ d)
-    ∙ (λ i. left-starts (this (codes "enrol")) w enrols i ++ left-append w a d i)
-    ∙ ap (λ l. cond (sameBytes (w .text) (codes "enrol")) enrols [] ++ l) (λ i. left-starts (this (codes "add")) w adds i ++ left-starts (this (codes "withdraw")) w withdraws i)
-
--- a word is one verb at most
-apart : {A : Type 0} (l v u : List ℕ) → sameBytes v u ≡ false → sameBytes l v ≡ true → sameBytes l u ≡ true → A
-apart l v u differ a b = absurd (false≢true (sym differ ∙ sym (ap (λ k. sameBytes k u) (sameBytes-decides l v .0 a)) ∙ b))
-
-abbrev verb-by : Bool → Bool → Bool → Option Verb
-verb-by a b c = cond a (Some verb.Enrol) (cond b (Some verb.Add) (cond c (Some verb.Withdraw) None))
+    let e = starts (this (verb-text verb.Enrol)) enrols in
+    let a = starts (this (verb-text verb.Add)) adds in
+    let d = starts (this (verb-text verb.Withdraw)) withdraws in
+    let p = starts (this (verb-text verb.Present)) adds in
+    left-append w e (a ++ (d ++ p))
+    ∙ (λ i. left-verb w verb.Enrol enrols i ++ (left-append w a (d ++ p)
+    ∙ (λ j. left-verb w verb.Add adds j ++ (left-append w d p ∙ (λ k. left-verb w verb.Withdraw withdraws k ++ left-verb w verb.Present adds k)) j)) i)
 
 command : (end : ℕ) (ws : List Placed) → Agrees end (command-at end ws) patterns ws
 command end [] = refl
-command end (w ∷ ws) =
-    go (sameBytes (w .text) (codes "enrol")) (sameBytes (w .text) (codes "add")) (sameBytes (w .text) (codes "withdraw")) refl refl refl
-    ∙ ap (λ l. cond (none l) (Some (w .byte)) (fault end l ws)) (sym (left-verbs w))
+command end (w ∷ ws) = go (verb-of (w .text)) ∙ ap (λ l. cond (none l) (Some (w .byte)) (fault end l ws)) (sym (left-verbs w))
   where
-    go : (a b c : Bool) → sameBytes (w .text) (codes "enrol") ≡ a → sameBytes (w .text) (codes "add") ≡ b → sameBytes (w .text) (codes "withdraw") ≡ c → fault-of (done (command-by end (w .byte) (verb-by a b c) ws)) ≡ cond (none (by-verb a b c)) (Some (w .byte)) (fault end (by-verb a b c) ws)
-    go true true c p q r = apart (w .text) (codes "enrol") (codes "add") refl p q
-    go true false true p q r = apart (w .text) (codes "enrol") (codes "withdraw") refl p r
-    go true false false p q r = next end any a-word (λ w. refl) [] [] (λ w ws. Ok (enrol w, ws)) (λ w ws. ends end (enrol w) ws) ws
-    go false true true p q r = apart (w .text) (codes "add") (codes "withdraw") refl q r
-    go false true false p q r = weighed end ws
-    go false false true p q r = bare end ws
-    go false false false p q r = refl
+    go : (o : Option Verb) → fault-of (done (command-by end (w .byte) o ws)) ≡ cond (none (by-verb o)) (Some (w .byte)) (fault end (by-verb o) ws)
+    go None = refl
+    go (Some verb.Enrol) = next end any a-word (λ w. refl) [] [] (λ w ws. Ok (enrol w, ws)) (λ w ws. ends end (enrol w) ws) ws
+    go (Some verb.Add) = weighed end add ws
+    go (Some verb.Withdraw) = bare end ws
+    go (Some verb.Present) = weighed end present ws
 
 some-just : (text : List ℕ) (w : Placed) → fits (this text) w ≡ isSome (just text w)
 some-just text w = go (sameBytes (w .text) text)

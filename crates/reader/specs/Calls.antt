@@ -1,4 +1,4 @@
--- Which call a line makes, what it answers and what it changes.
+-- What a line asks for, what it answers and what it changes.
 use mathlib.Core.Bool.{Bool}
 use mathlib.Core.List.{List, _∷_}
 use Prim.Native.Nat.{ℕ}
@@ -13,12 +13,14 @@ use Rattle.credential.specs.declared.Body.the-variants as body
 use Rattle.credential.specs.declared.Claim.{Claim}
 use Rattle.book.specs.Plain.{Plain, Call, Answer, answer, next}
 use Rattle.book.specs.Plain as plain
+use Rattle.credential.specs.Same.{Credential}
+use Rattle.source.specs.Slips.{present-answer, present-next}
 use Rattle.book.specs.Kept.{name-number}
 use Rattle.reader.specs.declared.sentence.RoleText.{RoleText}
 use Rattle.reader.specs.declared.sentence.Phrase.{Phrase}
 use Rattle.reader.specs.declared.sentence.Phrase.the-variants.{Member, Delegation, Link, Intersection}
 use Rattle.reader.specs.declared.sentence.Sentence.{Sentence}
-use Rattle.reader.specs.Grammar.{Command, enrol, add, withdraw, command-line}
+use Rattle.reader.specs.Grammar.{Command, enrol, add, withdraw, present, command-line}
 
 abbrev pub and-then : {X Y E : Type 0} → Result X E → (X → Result Y E) → Result Y E
 and-then (Ok x) f = f x
@@ -46,11 +48,16 @@ known-body E R (Intersection b c) = and-then (known-role E R b) (λ r. and-then 
 abbrev pub known-claim : {W : Type 0} → List (List ℕ) → List (List ℕ) → Sentence Placed W → Result (Claim W) ℕ
 known-claim E R s = and-then (known-role E R (s .head)) (λ h. and-then (known-body E R (s .body)) (λ b. Ok (record { head = h; body = b })))
 
--- the call that a command makes
-abbrev pub call-of : Plain → Command → Result Call ℕ
-call-of p (enrol w) = Ok (plain.enrol (w .text))
-call-of p (add s) = and-then (known-claim (p .entities) (p .role-names) s) (λ c. Ok (plain.add c))
-call-of p (withdraw s) = and-then (known-claim (p .entities) (p .role-names) s) (λ c. Ok (plain.withdraw c))
+-- what a line asks for, by numbers: a call on register and book, or a credential on the slip
+pub data Act : Type 0 where
+  calls : Call → Act
+  presents : Credential → Act
+
+abbrev pub act-of : Plain → Command → Result Act ℕ
+act-of p (enrol w) = Ok (calls (plain.enrol (w .text)))
+act-of p (add s) = and-then (known-claim (p .entities) (p .role-names) s) (λ c. Ok (calls (plain.add c)))
+act-of p (withdraw s) = and-then (known-claim (p .entities) (p .role-names) s) (λ c. Ok (calls (plain.withdraw c)))
+act-of p (present s) = and-then (known-claim (p .entities) (p .role-names) s) (λ c. Ok (presents c))
 
 -- a fault of the text: its number, and its byte counted from 1
 pub record Fault : Type 0 where
@@ -61,39 +68,47 @@ abbrev pub faulty : {X : Type 0} → ℕ → Result X ℕ → Result X Fault
 faulty number (Ok x) = Ok x
 faulty number (Err byte) = Err (record { number = number; byte = byte })
 
--- the call that a line makes: a malformed line is refused with 17 before any name is looked up,
--- then a name not enrolled with 18
-abbrev pub reading : Plain → List ℕ → Bool → Result Call Fault
-reading p bs ended = and-then (faulty 17 (command-line bs ended)) (λ c. faulty 18 (call-of p c))
+-- what a line asks for: a malformed line is refused with 17 before any name is looked up, then a
+-- name not enrolled with 18
+abbrev pub reading : Plain → List ℕ → Bool → Result Act Fault
+reading p bs ended = and-then (faulty 17 (command-line bs ended)) (λ c. faulty 18 (act-of p c))
 
--- what a line answers: a fault of its text, or what its call answers, whole
+-- what lines change: register and book as the plain book, and the slip
+pub record State : Type 0 where
+  pub book : Plain
+  pub slip : List Credential
+
+-- what a line answers: a fault of its text, or what is answered to what it asks for, whole
 pub data Outcome : Type 0 where
   faulted : Fault → Outcome
   answered : Answer → Outcome
 
-abbrev pub outcome-by : Plain → Result Call Fault → Outcome
-outcome-by p (Ok call) = answered (answer p call)
-outcome-by p (Err f) = faulted f
+abbrev pub outcome-by : State → Result Act Fault → Outcome
+outcome-by s (Ok (calls call)) = answered (answer (s .book) call)
+outcome-by s (Ok (presents c)) = answered (present-answer (s .slip))
+outcome-by s (Err f) = faulted f
 
 -- the same of a command
-abbrev pub outcome-of : Plain → Command → Outcome
-outcome-of p c = outcome-by p (faulty 18 (call-of p c))
+abbrev pub outcome-of : State → Command → Outcome
+outcome-of s c = outcome-by s (faulty 18 (act-of (s .book) c))
 
-abbrev pub outcome : Plain → List ℕ → Bool → Outcome
-outcome p bs ended = outcome-by p (reading p bs ended)
+abbrev pub outcome : State → List ℕ → Bool → Outcome
+outcome s bs ended = outcome-by s (reading (s .book) bs ended)
 
--- what a line changes: what its call does
-abbrev pub next-by : Plain → Result Call Fault → Plain
-next-by p (Ok call) = next p call
-next-by p (Err f) = p
+-- what a line changes
+abbrev pub next-by : State → Result Act Fault → State
+next-by s (Ok (calls call)) = record { book = next (s .book) call; slip = s .slip }
+next-by s (Ok (presents c)) = record { book = s .book; slip = present-next (s .slip) c }
+next-by s (Err f) = s
 
-abbrev pub next-of : Plain → Command → Plain
-next-of p c = next-by p (faulty 18 (call-of p c))
+abbrev pub next-of : State → Command → State
+next-of s c = next-by s (faulty 18 (act-of (s .book) c))
 
-abbrev pub next-line : Plain → List ℕ → Bool → Plain
-next-line p bs ended = next-by p (reading p bs ended)
+abbrev pub next-line : State → List ℕ → Bool → State
+next-line s bs ended = next-by s (reading (s .book) bs ended)
 
--- the calls so far, the newest first, with the one that a line makes
-abbrev pub calls-by : Result Call Fault → List Call → List Call
-calls-by (Ok call) past = call ∷ past
+-- the calls so far, the newest first, with the one that a line makes, if any
+abbrev pub calls-by : Result Act Fault → List Call → List Call
+calls-by (Ok (calls call)) past = call ∷ past
+calls-by (Ok (presents c)) past = past
 calls-by (Err f) past = past

@@ -30,6 +30,7 @@ pub data Command : Type 0 where
   enrol : Placed → Command
   add : Sentence Placed Record → Command
   withdraw : Sentence Placed (Unit {0}) → Command
+  present : Sentence Placed Record → Command
 
 abbrev pub Got : Type 0 → Type 0
 Got X = Result (X × List Placed) ℕ
@@ -146,6 +147,7 @@ command-by end byte None ws = Err byte
 command-by end byte (Some verb.Enrol) ws = then (fit a-word end ws) (λ w ws. Ok (enrol w, ws))
 command-by end byte (Some verb.Add) ws = then (credential-at end ws) (λ s ws. Ok (add s, ws))
 command-by end byte (Some verb.Withdraw) ws = then (statement-at end ws) (λ s ws. Ok (withdraw s, ws))
+command-by end byte (Some verb.Present) ws = then (credential-at end ws) (λ s ws. Ok (present s, ws))
 
 abbrev pub command-at : ℕ → List Placed → Got Command
 command-at end [] = Err end

@@ -55,7 +55,7 @@ fits (sign s) w = isSome (a-sign s w)
 abbrev pub Pattern : Type 0
 Pattern = List Wanted
 
--- `enrol NAME`, and the four statements after `add` and after `withdraw`
+-- `enrol NAME`, and the four statements after `add`, after `withdraw` and after `present`
 abbrev pub patterns : List Pattern
 patterns =
     (this (codes "enrol") ∷ any ∷ []) ∷
@@ -66,7 +66,11 @@ patterns =
     (this (codes "withdraw") ∷ ROLE ∷ sign Arrow ∷ ENTITY ∷ []) ∷
     (this (codes "withdraw") ∷ ROLE ∷ sign Arrow ∷ ROLE ∷ []) ∷
     (this (codes "withdraw") ∷ ROLE ∷ sign Arrow ∷ LINKED ∷ []) ∷
-    (this (codes "withdraw") ∷ ROLE ∷ sign Arrow ∷ ROLE ∷ sign And ∷ ROLE ∷ []) ∷ []
+    (this (codes "withdraw") ∷ ROLE ∷ sign Arrow ∷ ROLE ∷ sign And ∷ ROLE ∷ []) ∷
+    (this (codes "present") ∷ ROLE ∷ sign Arrow ∷ ENTITY ∷ sign Colon ∷ NUMBER ∷ NUMBER ∷ []) ∷
+    (this (codes "present") ∷ ROLE ∷ sign Arrow ∷ ROLE ∷ []) ∷
+    (this (codes "present") ∷ ROLE ∷ sign Arrow ∷ LINKED ∷ []) ∷
+    (this (codes "present") ∷ ROLE ∷ sign Arrow ∷ ROLE ∷ sign And ∷ ROLE ∷ []) ∷ []
 
 -- the first line of a text
 abbrev pub header-patterns : List Pattern

@@ -12,13 +12,14 @@ use Rattle.credential.specs.declared.Body.{Body}
 use Rattle.credential.specs.declared.Body.the-variants.{Member, Delegation, Link, Intersection}
 use Rattle.credential.specs.Same.{Credential, Statement}
 use Rattle.book.specs.Plain.{Plain, Call, add, withdraw, enrolled, fed}
-use Rattle.reader.specs.Calls.{reading}
+use Rattle.reader.specs.Calls.{calls, presents, reading}
 use Rattle.reader.specs.Spelling.{spelled, spelled-bare, named}
 
 -- a statement line that is read is what its statement spells, byte for byte
 pub record SpelledBack (p : Plain) (bs : List ℕ) (ended : Bool) : Type 0 where
-  pub added : (c : Credential) → reading p bs ended ≡ Ok (add c) → (enrolled p c ≡ true) × (bs ≡ codes "add " ++ spelled (named p c))
-  pub withdrawn : (s : Statement) → reading p bs ended ≡ Ok (withdraw s) → (enrolled p s ≡ true) × (bs ≡ codes "withdraw " ++ spelled-bare (named p s))
+  pub added : (c : Credential) → reading p bs ended ≡ Ok (calls (add c)) → (enrolled p c ≡ true) × (bs ≡ codes "add " ++ spelled (named p c))
+  pub withdrawn : (s : Statement) → reading p bs ended ≡ Ok (calls (withdraw s)) → (enrolled p s ≡ true) × (bs ≡ codes "withdraw " ++ spelled-bare (named p s))
+  pub presented : (c : Credential) → reading p bs ended ≡ Ok (presents c) → (enrolled p c ≡ true) × (bs ≡ codes "present " ++ spelled (named p c))
 
 -- the numbers of a record are of 32 signed bits
 abbrev pub Fits32 : Record → Type 0
@@ -32,5 +33,6 @@ BodyFits (Intersection b c) = Unit {0}
 
 -- what a statement spells, put on a line, is read as that statement and its record
 pub record ReadBack (p : Plain) : Type 0 where
-  pub added : (c : Credential) → BodyFits (c .body) → enrolled p c ≡ true → reading p (codes "add " ++ spelled (named p c)) true ≡ Ok (add c)
-  pub withdrawn : (s : Statement) → enrolled p s ≡ true → reading p (codes "withdraw " ++ spelled-bare (named p s)) true ≡ Ok (withdraw s)
+  pub added : (c : Credential) → BodyFits (c .body) → enrolled p c ≡ true → reading p (codes "add " ++ spelled (named p c)) true ≡ Ok (calls (add c))
+  pub withdrawn : (s : Statement) → enrolled p s ≡ true → reading p (codes "withdraw " ++ spelled-bare (named p s)) true ≡ Ok (calls (withdraw s))
+  pub presented : (c : Credential) → BodyFits (c .body) → enrolled p c ≡ true → reading p (codes "present " ++ spelled (named p c)) true ≡ Ok (presents c)

@@ -9,14 +9,15 @@ use Rattle.words.specs.Cursor.{told}
 use Rattle.reader.specs.declared.faults.Malformed.{Malformed}
 use Rattle.reader.specs.declared.faults.Unknown.{Unknown}
 use Rattle.reader.specs.declared.sentence.Command as code
-use Rattle.reader.specs.declared.sentence.Command.the-variants.{Enrol, Add, Withdraw}
+use Rattle.reader.specs.declared.sentence.Command.the-variants.{Enrol, Add, Withdraw, Present}
 use Rattle.reader.specs.Sentences.{sentence-by}
-use Rattle.reader.specs.Grammar.{Command, enrol, add, withdraw, Got}
+use Rattle.reader.specs.Grammar.{Command, enrol, add, withdraw, present, Got}
 
 abbrev pub told-command : code.Command → Command
 told-command (Enrol w) = enrol (told w)
 told-command (Add s) = add (sentence-by told s)
 told-command (Withdraw s) = withdraw (sentence-by told s)
+told-command (Present s) = present (sentence-by told s)
 
 -- what a call gave, and the words that it left
 abbrev pub got : {X Y : Type 0} → (X → Y) → Result X Malformed → List Placed → Got Y

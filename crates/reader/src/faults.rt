@@ -3,6 +3,7 @@ ghost use mathlib.Core.Path.{_≡_};
 ghost use Rattle.reader.specs.declared.faults.ReadFault.the-variants as fault;
 ghost use Rattle.reader.specs.Answers.{fault-number};
 use book::Refusal;
+use source::SlipRefusal;
 
 // The place of the first word that is unfit, empty, extra or missing, or of the missing line feed.
 #[derive(Clone, Copy, PartialEq)]
@@ -16,12 +17,14 @@ pub struct Unknown {
     pub byte: usize,
 }
 
-// Bytes are counted from 1. The refusal of the call that the line makes is carried whole.
+// Bytes are counted from 1. The refusal of the call that the line makes, on the book or on the slip, is
+// carried whole.
 #[derive(Clone, Copy)]
 pub enum ReadFault {
     Malformed { byte: usize },
     Unknown { byte: usize },
     Refused(Refusal),
+    NotPresented(SlipRefusal),
 }
 
 impl ReadFault {
@@ -33,6 +36,7 @@ impl ReadFault {
             ReadFault::Malformed { byte: _ } => 17,
             ReadFault::Unknown { byte: _ } => 18,
             ReadFault::Refused(e) => e.number(),
+            ReadFault::NotPresented(e) => e.number(),
         }
     }
 }
@@ -58,5 +62,13 @@ pub impl From<Refusal> for ReadFault as FromRefusal {
 
     fn from(e: Refusal) -> ReadFault {
         ReadFault::Refused(e)
+    }
+}
+
+pub impl From<SlipRefusal> for ReadFault as FromSlipRefusal {
+    ghost converts = { λ e r. r ≡ fault.NotPresented e };
+
+    fn from(e: SlipRefusal) -> ReadFault {
+        ReadFault::NotPresented(e)
     }
 }

@@ -181,6 +181,7 @@ fn command<'a>(words: &mut Parts<'a>, end: usize) -> Result<Command<'a>, Malform
         Some(Verb::Enrol) => Ok(Command::Enrol(filled(words, end)?)),
         Some(Verb::Add) => Ok(Command::Add(weighed_statement(words, end)?)),
         Some(Verb::Withdraw) => Ok(Command::Withdraw(statement(words, end)?)),
+        Some(Verb::Present) => Ok(Command::Present(weighed_statement(words, end)?)),
         None => Err(Malformed { byte: word.byte }),
     }
 }

@@ -2,13 +2,15 @@
 ghost use mathlib.Core.Path.{_≡_};
 ghost use Rattle.words.specs.Cursor.{told};
 ghost use mathlib.Core.List.{List};
+ghost use Rattle.book.specs.declared.store.Book.{Book as AnyBook};
 ghost use Rattle.book.specs.Plain.{Call, fed};
+ghost use Rattle.source.specs.declared.slips.Slip.{Slip as AnySlip};
 ghost use Rattle.book.specs.Kept.{entities, role-names, plain};
 ghost use Rattle.reader.specs.Sentences.{role-by, phrase-by, sentence-by};
-ghost use Rattle.reader.specs.Grammar.{add, withdraw};
+ghost use Rattle.reader.specs.Grammar.{add, withdraw, present};
 ghost use Rattle.reader.specs.Calls.{known, known-role, known-body, known-claim, outcome-of, outcome, next-of, next-line};
 ghost use Rattle.reader.specs.Told.{unknown-at};
-ghost use Rattle.reader.specs.Answers.{line-said, Stands-after-line};
+ghost use Rattle.reader.specs.Answers.{line-said, state, Stands-after-line};
 ghost use Rattle.reader.specs.RoundTrip.{SpelledBack, ReadBack};
 use crate::faults::FromMalformed;
 use crate::faults::FromRefusal;
@@ -29,7 +31,9 @@ use credential::Entity;
 use credential::Record;
 use credential::Role;
 use credential::RoleName;
+use source::Slip;
 use words::Part;
+use crate::faults::FromSlipRefusal;
 
 // What the call that a line makes answers.
 #[derive(Clone, Copy)]
@@ -39,6 +43,8 @@ pub enum Reply {
     Added(usize),
     // The old place.
     Withdrawn(usize),
+    // The place on the slip.
+    Presented(usize),
 }
 
 fn entity(register: &Register, word: Part) -> Result<Entity, Unknown>
@@ -98,8 +104,8 @@ fn add(
     book: &mut Book,
     sentence: Sentence<Part, Record>,
 ) -> Result<Reply, ReadFault>
-    ensures answers { λ r. ⌜ line-said r ≡ outcome-of (plain (now (register .entry)) (now (book .entry))) (add (sentence-by told (sentence .entry))) ⌝ }
-    ensures changes { λ _. ⌜ plain (now (register .entry)) (now (book .exit)) ≡ next-of (plain (now (register .entry)) (now (book .entry))) (add (sentence-by told (sentence .entry))) ⌝ }
+    ensures answers { λ r. ⌜ ((s : AnySlip) → line-said r ≡ outcome-of (state (now (register .entry)) (now (book .entry)) s) (add (sentence-by told (sentence .entry)))) ⌝ }
+    ensures changes { λ _. ⌜ ((s : AnySlip) → state (now (register .entry)) (now (book .exit)) s ≡ next-of (state (now (register .entry)) (now (book .entry)) s) (add (sentence-by told (sentence .entry)))) ⌝ }
 {
     let credential = claim(register, sentence)?;
     Ok(Reply::Added(book.add(register, credential)?))
@@ -110,23 +116,36 @@ fn withdraw(
     book: &mut Book,
     sentence: Sentence<Part, ()>,
 ) -> Result<Reply, ReadFault>
-    ensures answers { λ r. ⌜ line-said r ≡ outcome-of (plain (now (register .entry)) (now (book .entry))) (withdraw (sentence-by told (sentence .entry))) ⌝ }
-    ensures changes { λ _. ⌜ plain (now (register .entry)) (now (book .exit)) ≡ next-of (plain (now (register .entry)) (now (book .entry))) (withdraw (sentence-by told (sentence .entry))) ⌝ }
+    ensures answers { λ r. ⌜ ((s : AnySlip) → line-said r ≡ outcome-of (state (now (register .entry)) (now (book .entry)) s) (withdraw (sentence-by told (sentence .entry)))) ⌝ }
+    ensures changes { λ _. ⌜ ((s : AnySlip) → state (now (register .entry)) (now (book .exit)) s ≡ next-of (state (now (register .entry)) (now (book .entry)) s) (withdraw (sentence-by told (sentence .entry)))) ⌝ }
 {
     let statement = claim(register, sentence)?;
     Ok(Reply::Withdrawn(book.withdraw(register, statement)?))
+}
+
+fn present(
+    register: &Register,
+    slip: &mut Slip,
+    sentence: Sentence<Part, Record>,
+) -> Result<Reply, ReadFault>
+    ensures answers { λ r. ⌜ ((b : AnyBook) → line-said r ≡ outcome-of (state (now (register .entry)) b (now (slip .entry))) (present (sentence-by told (sentence .entry)))) ⌝ }
+    ensures changes { λ _. ⌜ ((b : AnyBook) → state (now (register .entry)) b (now (slip .exit)) ≡ next-of (state (now (register .entry)) b (now (slip .entry))) (present (sentence-by told (sentence .entry)))) ⌝ }
+{
+    let credential = claim(register, sentence)?;
+    Ok(Reply::Presented(slip.present(credential)?))
 }
 
 // A line of the text; `ended` says whether a line feed ends it. A line that is refused changes nothing.
 pub fn read(
     register: &mut Register,
     book: &mut Book,
+    slip: &mut Slip,
     line: &[u8],
     ended: bool,
 ) -> Result<Reply, ReadFault>
-    ensures answers { λ r. ⌜ line-said r ≡ outcome (plain (now (register .entry)) (now (book .entry))) (now (line .entry)) ended ⌝ }
-    ensures changes { λ _. ⌜ plain (now (register .exit)) (now (book .exit)) ≡ next-line (plain (now (register .entry)) (now (book .entry))) (now (line .entry)) ended ⌝ }
-    ensures uses { λ _. ⌜ Stands-after-line (plain (now (register .entry)) (now (book .entry))) (now (line .entry)) ended (plain (now (register .exit)) (now (book .exit))) ⌝ }
+    ensures answers { λ r. ⌜ line-said r ≡ outcome (state (now (register .entry)) (now (book .entry)) (now (slip .entry))) (now (line .entry)) ended ⌝ }
+    ensures changes { λ _. ⌜ state (now (register .exit)) (now (book .exit)) (now (slip .exit)) ≡ next-line (state (now (register .entry)) (now (book .entry)) (now (slip .entry))) (now (line .entry)) ended ⌝ }
+    ensures uses { λ _. ⌜ Stands-after-line (state (now (register .entry)) (now (book .entry)) (now (slip .entry))) (now (line .entry)) ended (state (now (register .exit)) (now (book .exit)) (now (slip .exit))) ⌝ }
     ensures spelled_back { λ _. ⌜ SpelledBack (plain (now (register .entry)) (now (book .entry))) (now (line .entry)) ended ⌝ }
     ensures read_back { λ _. ⌜ ((past : List Call) → ReadBack (fed past)) ⌝ }
 {
@@ -134,5 +153,6 @@ pub fn read(
         Command::Enrol(name) => Ok(Reply::Enrolled(register.enrol(name.text)?)),
         Command::Add(sentence) => add(register, book, sentence),
         Command::Withdraw(sentence) => withdraw(register, book, sentence),
+        Command::Present(sentence) => present(register, slip, sentence),
     }
 }

@@ -34,4 +34,5 @@ pub enum Command<'a> {
     Enrol(Part<'a>),
     Add(Sentence<Part<'a>, Record>),
     Withdraw(Sentence<Part<'a>, ()>),
+    Present(Sentence<Part<'a>, Record>),
 }

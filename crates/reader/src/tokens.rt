@@ -27,6 +27,7 @@ pub enum Verb {
     Enrol,
     Add,
     Withdraw,
+    Present,
 }
 
 // A word of a statement: its names, signs and numbers are parts of the line, with their places.
@@ -54,6 +55,8 @@ pub(crate) fn read_verb(word: &[u8]) -> Option<Verb>
         Some(Verb::Add)
     } else if is(word, b"withdraw") {
         Some(Verb::Withdraw)
+    } else if is(word, b"present") {
+        Some(Verb::Present)
     } else {
         None
     }

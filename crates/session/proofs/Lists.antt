@@ -9,11 +9,11 @@ use Rattle.std.proofs.shelf.Lists.{at-drop-more, at-drop-all}
 use Rattle.std.specs.declared.result.Result.{Result}
 use Rattle.std.specs.declared.result.Result.the-variants.{Ok, Err}
 use Rattle.credential.specs.Same.{Credential}
-use Rattle.book.specs.Plain.{Plain, Call, nothing, enrolled, next}
+use Rattle.book.specs.Plain.{Plain, enrolled}
 use Rattle.book.proofs.InForce.{AllBelow, AllEnrolled, next-enrolled}
-use Rattle.reader.specs.Calls.{Fault, reading, next-by, next-line}
+use Rattle.reader.specs.Calls.{Act, calls, presents, Fault, State, reading, next-by, next-line}
 use Rattle.writer.specs.Written.{text}
-use Rattle.session.specs.Transcript.{Line, lines, after, header, others, headed}
+use Rattle.session.specs.Transcript.{Line, lines, start, after, header, others, headed}
 use Rattle.session.specs.Roster.{listing, in-force, roster}
 use Rattle.session.specs.Listed.{Enrolled}
 use Rattle.session.proofs.Runs.{fits}
@@ -35,24 +35,25 @@ none-left p cs i out ge = sym (append-nil out) ∙ ap (λ l. out ++ l) (sym (at-
 
 -- every line leaves all credentials enrolled
 
-line-enrolled : (p : Plain) (r : Result Call Fault) → AllEnrolled p → AllEnrolled (next-by p r)
-line-enrolled p (Ok call) h = next-enrolled p call h
-line-enrolled p (Err f) h = h
+line-enrolled : (s : State) (r : Result Act Fault) → AllEnrolled (s .book) → AllEnrolled (next-by s r .book)
+line-enrolled s (Ok (calls call)) h = next-enrolled (s .book) call h
+line-enrolled s (Ok (presents c)) h = h
+line-enrolled s (Err f) h = h
 
-after-enrolled : (p : Plain) (ls : List Line) → AllEnrolled p → AllEnrolled (after p ls)
-after-enrolled p [] h = h
-after-enrolled p (l ∷ ls) h = after-enrolled (next-line p (l .text) (l .ended)) ls (line-enrolled p (reading p (l .text) (l .ended)) h)
+after-enrolled : (s : State) (ls : List Line) → AllEnrolled (s .book) → AllEnrolled (after s ls .book)
+after-enrolled s [] h = h
+after-enrolled s (l ∷ ls) h = after-enrolled (next-line s (l .text) (l .ended)) ls (line-enrolled s (reading (s .book) (l .text) (l .ended)) h)
 
 all-enrolled : (p : Plain) (cs : List Credential) → AllBelow (length (p .entities)) (length (p .role-names)) cs → Enrolled p cs
 all-enrolled p [] h = tt
 all-enrolled p (c ∷ cs) h = (h .0, all-enrolled p cs (h .1))
 
-pub in-force-enrolled : (ls : List Line) → Enrolled (after nothing ls) (after nothing ls .credentials)
-in-force-enrolled ls = all-enrolled (after nothing ls) (after nothing ls .credentials) (after-enrolled nothing ls tt)
+in-force-enrolled : (ls : List Line) → Enrolled (after start ls .book) (after start ls .book .credentials)
+in-force-enrolled ls = all-enrolled (after start ls .book) (after start ls .book .credentials) (after-enrolled start ls tt)
 
 -- the lines ls of an input that is not too long, after a good header
-pub roster-run : (input : List ℕ) → length input ≤ 32768 → (ls : List Line) → ls ≡ lines input → header ls ≡ Ok tt → (q : Plain) → q ≡ after nothing (others ls) → (out new : List ℕ) → out ≡ [] → (Enrolled q (q .credentials) → new ≡ out ++ in-force q) → new ≡ roster input
+pub roster-run : (input : List ℕ) → length input ≤ 32768 → (ls : List Line) → ls ≡ lines input → header ls ≡ Ok tt → (q : State) → q ≡ after start (others ls) → (out new : List ℕ) → out ≡ [] → (Enrolled (q .book) (q .book .credentials) → new ≡ out ++ in-force (q .book)) → new ≡ roster input
 roster-run input short ls same good q is out new none put =
-    put (subst (λ p. Enrolled p (p .credentials)) (sym is) (in-force-enrolled (others ls)))
-    ∙ (λ i. none i ++ in-force (is i)) ∙ ap (λ r. headed r (in-force (after nothing (others ls)))) (sym good)
-    ∙ ap (λ k. headed (header k) (in-force (after nothing (others k)))) same ∙ fits input short _
+    put (subst (λ s. Enrolled (s .book) (s .book .credentials)) (sym is) (in-force-enrolled (others ls)))
+    ∙ (λ i. none i ++ in-force (is i .book)) ∙ ap (λ r. headed r (in-force (after start (others ls) .book))) (sym good)
+    ∙ ap (λ k. headed (header k) (in-force (after start (others k) .book))) same ∙ fits input short _

@@ -4,7 +4,7 @@ use mathlib.Core.List.{List, [], _∷_, _++_, append-assoc}
 use Prim.Native.Nat.{ℕ}
 use Rattle.std.specs.Written.{decimal}
 use Rattle.reader.specs.declared.faults.ReadFault.{ReadFault}
-use Rattle.reader.specs.declared.faults.ReadFault.the-variants.{Malformed, Unknown, Refused}
+use Rattle.reader.specs.declared.faults.ReadFault.the-variants.{Malformed, Unknown, Refused, NotPresented}
 use Rattle.reader.specs.Answers.{fault-said}
 use Rattle.session.specs.Transcript.{printed}
 use Rattle.session.specs.Shown.{shown-fault}
@@ -13,3 +13,4 @@ pub shown-printed : (e : ReadFault) → shown-fault e ++ 10 ∷ [] ≡ printed (
 shown-printed (Malformed byte) = simp append-assoc
 shown-printed (Unknown byte) = simp append-assoc
 shown-printed (Refused e) = simp append-assoc
+shown-printed (NotPresented e) = simp append-assoc

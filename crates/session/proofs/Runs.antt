@@ -9,19 +9,18 @@ use Rattle.std.proofs.shelf.Tests.{cond-false, lt-leb}
 use Rattle.words.specs.Split.{Placed, placed, split}
 use Rattle.words.specs.Cursor.{none}
 use lib.ListN.{length}
-use Rattle.book.specs.Plain.{Plain, nothing}
-use Rattle.reader.specs.Calls.{outcome, next-line}
-use Rattle.session.specs.Transcript.{Line, part-line, some, lines-of, lines, printed, answers, after, header, others, bad-header, headed, fitting, transcript}
+use Rattle.reader.specs.Calls.{State, outcome, next-line}
+use Rattle.session.specs.Transcript.{Line, part-line, some, lines-of, lines, printed, start, answers, after, header, others, bad-header, headed, fitting, transcript}
 use Rattle.session.specs.Turns.{texts, Answered}
 
-answers-append : (p : Plain) (xs ys : List Line) → answers p (xs ++ ys) ≡ answers p xs ++ answers (after p xs) ys
+answers-append : (p : State) (xs ys : List Line) → answers p (xs ++ ys) ≡ answers p xs ++ answers (after p xs) ys
 answers-append p [] ys = refl
 answers-append p (l ∷ xs) ys =
     let here = printed (outcome p (l .text) (l .ended)) in
     let q = next-line p (l .text) (l .ended) in
     ap (λ o. here ++ o) (answers-append q xs ys) ∙ sym (append-assoc here (answers q xs) (answers (after q xs) ys))
 
-after-append : (p : Plain) (xs ys : List Line) → after p (xs ++ ys) ≡ after (after p xs) ys
+after-append : (p : State) (xs ys : List Line) → after p (xs ++ ys) ≡ after (after p xs) ys
 after-append p [] ys = refl
 after-append p (l ∷ xs) ys = after-append (next-line p (l .text) (l .ended)) xs ys
 
@@ -39,7 +38,7 @@ whole-lines input text byte ws whole e =
     ap (λ l. lines-of (texts l)) e ∙ (λ i. lines-of (texts (placed (whole .1 i) (split 10 (whole .0 i))))) ∙ ap lines-of (texts-placed 1 (split 10 input))
 
 -- the part w was answered, and ws are left of it and them
-module _ (p q : Plain) (out new : List ℕ) (w : Placed) (ws all : List Placed) (is : all ≡ w ∷ ws) (h : Answered p (part-line (w .text) (not (none ws))) out q new) where
+module _ (p q : State) (out new : List ℕ) (w : Placed) (ws all : List Placed) (is : all ≡ w ∷ ws) (h : Answered p (part-line (w .text) (not (none ws))) out q new) where
   parted : lines-of (texts all) ≡ part-line (w .text) (not (none ws)) ++ lines-of (texts ws)
   parted = ap (λ l. lines-of (texts l)) is ∙ ap (λ b. part-line (w .text) b ++ lines-of (texts ws)) (sym (some-texts ws))
 
@@ -61,12 +60,12 @@ fits input short out = sym (cond-false _ _ _ (lt-leb 32769 (length input) (omega
 
 -- the lines ls of an input that is not too long
 module _ (input : List ℕ) (short : length input ≤ 32768) (ls : List Line) (same : ls ≡ lines input) where
-  pub good-run : header ls ≡ Ok tt → (p q : Plain) (rest : List Line) (out new : List ℕ) → p ≡ nothing → rest ≡ others ls → out ≡ [] → Answered p rest out q new → new ≡ transcript input
-  good-run good p q rest out new start left none h =
-      h .prints ∙ (λ i. none i ++ answers (start i) (left i)) ∙ ap (λ r. headed r (answers nothing (others ls))) (sym good)
-      ∙ ap (λ k. headed (header k) (answers nothing (others k))) same ∙ fits input short (headed (header (lines input)) (answers nothing (others (lines input))))
+  pub good-run : header ls ≡ Ok tt → (p q : State) (rest : List Line) (out new : List ℕ) → p ≡ start → rest ≡ others ls → out ≡ [] → Answered p rest out q new → new ≡ transcript input
+  good-run good p q rest out new begun left empty h =
+      h .prints ∙ (λ i. empty i ++ answers (begun i) (left i)) ∙ ap (λ r. headed r (answers start (others ls))) (sym good)
+      ∙ ap (λ k. headed (header k) (answers start (others k))) same ∙ fits input short (headed (header (lines input)) (answers start (others (lines input))))
 
   pub bad-run : (byte : ℕ) → header ls ≡ Err byte → (out new : List ℕ) → out ≡ [] → new ≡ out ++ bad-header byte → new ≡ transcript input
-  bad-run byte bad out new none e =
-      e ∙ ap (λ o. o ++ bad-header byte) none ∙ ap (λ r. headed r (answers nothing (others ls))) (sym bad)
-      ∙ ap (λ k. headed (header k) (answers nothing (others k))) same ∙ fits input short (headed (header (lines input)) (answers nothing (others (lines input))))
+  bad-run byte bad out new empty e =
+      e ∙ ap (λ o. o ++ bad-header byte) empty ∙ ap (λ r. headed r (answers start (others ls))) (sym bad)
+      ∙ ap (λ k. headed (header k) (answers start (others k))) same ∙ fits input short (headed (header (lines input)) (answers start (others (lines input))))

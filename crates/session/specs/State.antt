@@ -1,7 +1,9 @@
--- A session's state as the plain book.
-use Rattle.book.specs.Plain.{Plain}
-use Rattle.book.specs.Kept.{plain}
+-- A session's register, book and slip as the state that lines change.
+use mathlib.Core.List.{[]}
+use Rattle.book.specs.Plain.{nothing}
+use Rattle.reader.specs.Calls.{State}
+use Rattle.reader.specs.Answers as answers
 use Rattle.session.specs.declared.state.Session.{Session}
 
-abbrev pub state : Session → Plain
-state s = plain (s .register) (s .book)
+abbrev pub state : Session → State
+state s = answers.state (s .register) (s .book) (s .slip)

@@ -9,9 +9,9 @@ use Rattle.std.specs.declared.result.Result.{Result}
 use Rattle.std.specs.declared.result.Result.the-variants.{Ok, Err}
 use Rattle.std.specs.Written.{decimal}
 use Rattle.words.specs.Split.{split}
-use Rattle.book.specs.Plain.{Plain, Answer, numbered, at-place, refused, nothing}
+use Rattle.book.specs.Plain.{Answer, numbered, at-place, refused, nothing}
 use Rattle.reader.specs.Grammar.{first-line}
-use Rattle.reader.specs.Calls.{Fault, Outcome, faulted, answered, outcome, next-line}
+use Rattle.reader.specs.Calls.{State, Fault, Outcome, faulted, answered, outcome, next-line}
 
 -- a line without its line feed, and whether it has one
 pub record Line : Type 0 where
@@ -49,12 +49,16 @@ abbrev pub printed : Outcome → List ℕ
 printed (faulted f) = printed-fault f
 printed (answered a) = printed-answer a
 
+-- no names, no credentials, and nothing presented
+abbrev pub start : State
+start = record { book = nothing; slip = [] }
+
 -- what lines print, from a state on, and the state after them
-abbrev pub answers : Plain → List Line → List ℕ
+abbrev pub answers : State → List Line → List ℕ
 answers p [] = []
 answers p (l ∷ ls) = printed (outcome p (l .text) (l .ended)) ++ answers (next-line p (l .text) (l .ended)) ls
 
-abbrev pub after : Plain → List Line → Plain
+abbrev pub after : State → List Line → State
 after p [] = p
 after p (l ∷ ls) = after (next-line p (l .text) (l .ended)) ls
 
@@ -80,4 +84,4 @@ fitting input out = cond (ltb 32768 (length input)) (codes "too long" ++ 10 ∷ 
 
 -- the output for a whole input
 abbrev pub transcript : List ℕ → List ℕ
-transcript input = fitting input (headed (header (lines input)) (answers nothing (others (lines input))))
+transcript input = fitting input (headed (header (lines input)) (answers start (others (lines input))))

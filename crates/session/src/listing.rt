@@ -25,7 +25,7 @@ use reader::faults::FromMalformed;
 impl Session {
     // A statement as add spells it, on a line of its own.
     fn list_one(&self, credential: &Credential, out: &mut Vec<u8>) -> Result<(), AllocError>
-        ensures { λ r. ⌜ made r (λ _. enrolled (state (now (self .entry))) (now (credential .entry)) ≡ true → vec-items (now (out .exit)) ≡ vec-items (now (out .entry)) ++ (text (state (now (self .entry))) (now (credential .entry)) ++ 10 ∷ [])) ⌝ }
+        ensures { λ r. ⌜ made r (λ _. enrolled (state (now (self .entry)) .book) (now (credential .entry)) ≡ true → vec-items (now (out .exit)) ≡ vec-items (now (out .entry)) ++ (text (state (now (self .entry)) .book) (now (credential .entry)) ++ 10 ∷ [])) ⌝ }
     {
         let mut buffer = [0u8; CAPACITY];
         let Ok(len) = write(&self.register, credential, &mut buffer) else {
@@ -37,7 +37,7 @@ impl Session {
     }
 
     fn list(&self, out: &mut Vec<u8>) -> Result<(), AllocError>
-        ensures { λ r. ⌜ made r (λ _. Enrolled (state (now (self .entry))) (listed (now (self .entry) .book)) → vec-items (now (out .exit)) ≡ vec-items (now (out .entry)) ++ in-force (state (now (self .entry)))) ⌝ }
+        ensures { λ r. ⌜ made r (λ _. Enrolled (state (now (self .entry)) .book) (listed (now (self .entry) .book)) → vec-items (now (out .exit)) ≡ vec-items (now (out .entry)) ++ in-force (state (now (self .entry)) .book)) ⌝ }
     {
         let credentials = self.book.credentials();
         for credential in credentials {

@@ -27,7 +27,7 @@ impl fmt::Display for Printed as PrintedDisplay {
             ReadFault::Malformed { byte } | ReadFault::Unknown { byte } => {
                 write!(f, "refused {n} byte {byte}")
             }
-            ReadFault::Refused(_) => write!(f, "refused {n}"),
+            ReadFault::Refused(_) | ReadFault::NotPresented(_) => write!(f, "refused {n}"),
         }
     }
 }

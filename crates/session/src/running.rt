@@ -3,9 +3,8 @@ ghost use mathlib.Core.Path.{_≡_};
 ghost use mathlib.Core.List.{_++_};
 ghost use Rattle.std.specs.Of.String.{string-bytes};
 ghost use Rattle.std.specs.Vec.{made};
-ghost use Rattle.book.specs.Plain.{nothing};
 ghost use Rattle.reader.specs.Told.{at-byte};
-ghost use Rattle.session.specs.Transcript.{part-line, header, others, transcript};
+ghost use Rattle.session.specs.Transcript.{start, part-line, header, others, transcript};
 ghost use Rattle.session.specs.State.{state};
 ghost use Rattle.session.specs.Turns.{left-lines, Answered};
 use crate::printing::print_fault;
@@ -17,6 +16,7 @@ use reader::Malformed;
 use reader::faults::FromMalformed;
 use reader::grammar::parse_header;
 use reader::lines::read;
+use source::Slip;
 use std::alloc::AllocError;
 use std::alloc::Global;
 use words::Part;
@@ -26,13 +26,18 @@ use words::Parts;
 pub const MOST_BYTES: usize = 32_768;
 
 impl Session {
-    // With no names and no credentials.
+    // With no names, no credentials and nothing presented.
     pub fn new(heap: Global) -> Result<Session, AllocError>
-        ensures { λ r. ⌜ made r (λ s. state s ≡ nothing) ⌝ }
+        ensures { λ r. ⌜ made r (λ s. state s ≡ start) ⌝ }
     {
         let register = Register::new(heap)?;
         let book = Book::new(heap)?;
-        Ok(Session { register, book })
+        let slip = Slip::new(heap)?;
+        Ok(Session {
+            register,
+            book,
+            slip,
+        })
     }
 
     // Obeys what stands between two line feeds, and prints its refusal, if any.
@@ -43,7 +48,13 @@ impl Session {
         if !ended && text.is_empty() {
             return Ok(());
         }
-        let reply = read(&mut self.register, &mut self.book, text, ended);
+        let reply = read(
+            &mut self.register,
+            &mut self.book,
+            &mut self.slip,
+            text,
+            ended,
+        );
         print_reply(out, reply)
     }
 

@@ -17,7 +17,7 @@ use Rattle.std.proofs.shelf.Tests.{false≢true}
 use Rattle.credential.specs.declared.Record.{Record}
 use Rattle.credential.specs.Same.{Credential}
 use Rattle.book.specs.Plain.{Plain, Call, add, enrolled, fed}
-use Rattle.reader.specs.Calls.{reading}
+use Rattle.reader.specs.Calls.{calls, reading}
 use Rattle.reader.specs.declared.sentence.Sentence.{Sentence}
 use Rattle.reader.specs.Spelling.{spelled}
 use Rattle.reader.specs.RoundTrip.{BodyFits}
@@ -47,7 +47,7 @@ module _ (p : Plain) (c : Credential) (buffer new : List ℕ) (left : new ≡ af
   read-again fits (Ok n) told = λ past stands.
       let w = written n told in
       ap (λ t. reading p (codes "add " ++ t) true) (w .1)
-      ∙ subst (λ q. enrolled q c ≡ true → reading q (codes "add " ++ text q c) true ≡ Ok (add c)) (sym stands) (read-back past .added c fits) (w .0)
+      ∙ subst (λ q. enrolled q c ≡ true → reading q (codes "add " ++ text q c) true ≡ Ok (calls (add c))) (sym stands) (read-back past .added c fits) (w .0)
 
 -- a draft has room for any statement, so no text is longer
 pub short-text : (d : Draft) (s t : Sentence (List ℕ) Record) (e : Bool) → held d ≡ spelled s → Some s ≡ whenTrue e t → e ≡ true → length (spelled t) ≤ 154

@@ -10,7 +10,7 @@ use Rattle.std.specs.declared.result.Result.{Result}
 use Rattle.std.specs.declared.result.Result.the-variants.{Ok, Err}
 use Rattle.credential.specs.Same.{Credential}
 use Rattle.book.specs.Plain.{Plain, Call, add, enrolled, fed}
-use Rattle.reader.specs.Calls.{reading}
+use Rattle.reader.specs.Calls.{calls, reading}
 use Rattle.reader.specs.Spelling.{spelled, named}
 use Rattle.writer.specs.declared.refusal.WriteRefusal.{WriteRefusal}
 use Rattle.writer.specs.declared.refusal.WriteRefusal.the-variants.{NotEnrolled, BufferTooShort}
@@ -54,4 +54,4 @@ after p c buffer = unless-refused (answer p c buffer) buffer (over (text p c) bu
 -- whatever calls came before, if the state stands as the plain book fed those calls, the text put on
 -- an add line is read as this statement with its record
 abbrev pub ReadAgain : Plain → Credential → List ℕ → Type 0
-ReadAgain p c text = (past : List Call) → p ≡ fed past → reading p (codes "add " ++ text) true ≡ Ok (add c)
+ReadAgain p c text = (past : List Call) → p ≡ fed past → reading p (codes "add " ++ text) true ≡ Ok (calls (add c))

@@ -9,4 +9,4 @@ use Rattle.session.proofs.state.Session.list.Given as given
 
 abbrev pub Inv-loop-credential : given.InvT-loop-credential
 Inv-loop-credential l =
-    Enrolled (state (l .self)) (l .credentials) → vec-items (l .out) ++ listing (state (l .self)) (drop (l .credential-index) (l .credentials)) ≡ vec-items (l .entry .out) ++ listing (state (l .self)) (l .credentials)
+    Enrolled (state (l .self) .book) (l .credentials) → vec-items (l .out) ++ listing (state (l .self) .book) (drop (l .credential-index) (l .credentials)) ≡ vec-items (l .entry .out) ++ listing (state (l .self) .book) (l .credentials)
