@@ -3,6 +3,8 @@ pub mod joins;
 pub mod layers;
 pub mod slips;
 pub mod sources;
+#[cfg(test)]
+mod tests;
 
 pub use joins::Empty;
 pub use joins::Join;
