@@ -14,6 +14,7 @@ ghost use Rattle.reader.specs.Answers.{line-said, state, Stands-after-line};
 ghost use Rattle.reader.specs.RoundTrip.{SpelledBack, ReadBack};
 use crate::faults::FromMalformed;
 use crate::faults::FromRefusal;
+use crate::faults::FromSlipRefusal;
 use crate::faults::FromUnknown;
 use crate::faults::ReadFault;
 use crate::faults::Unknown;
@@ -33,7 +34,6 @@ use credential::Role;
 use credential::RoleName;
 use source::Slip;
 use words::Part;
-use crate::faults::FromSlipRefusal;
 
 // What the call that a line makes answers.
 #[derive(Clone, Copy)]

@@ -15,12 +15,12 @@ use crate::running::MOST_BYTES;
 use crate::running::check_header;
 use crate::state::Session;
 use credential::Credential;
+use reader::faults::FromMalformed;
 use std::alloc::AllocError;
 use std::alloc::Global;
 use words::Part;
 use writer::CAPACITY;
 use writer::write;
-use reader::faults::FromMalformed;
 
 impl Session {
     // A statement as add spells it, on a line of its own.

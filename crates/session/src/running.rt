@@ -58,7 +58,11 @@ impl Session {
         print_reply(out, reply)
     }
 
-    pub(crate) fn answer_all(&mut self, lines: &mut Parts, out: &mut String) -> Result<(), AllocError>
+    pub(crate) fn answer_all(
+        &mut self,
+        lines: &mut Parts,
+        out: &mut String,
+    ) -> Result<(), AllocError>
         ensures { λ r. ⌜ made r (λ _. Answered (state (now (self .entry))) (left-lines (now (lines .entry))) (string-bytes (now (out .entry))) (state (now (self .exit))) (string-bytes (now (out .exit)))) ⌝ }
     {
         while let Some(line) = lines.next() {

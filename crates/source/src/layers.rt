@@ -7,10 +7,10 @@ ghost use Rattle.book.specs.Kept.{listed};
 ghost use Rattle.source.specs.Shows.{origin-at, layer};
 ghost use Rattle.source.specs.Short.{book-short, slip-short};
 ghost use Rattle.source.specs.Slips.{presented};
-use book::Book;
 use crate::slips::Slip;
 use crate::sources::Origin;
 use crate::sources::Source;
+use book::Book;
 use credential::Credential;
 
 // The layer of the book.

@@ -2,10 +2,10 @@ ghost use mathlib.Core.Path.{_≡_};
 ghost use mathlib.Core.List.{[]};
 ghost use Rattle.std.specs.Vec.{made};
 ghost use Rattle.source.specs.Slips.{presented, number, present-said, present-answer, present-next};
+use super::*;
 use credential::Credential;
 use std::alloc::AllocError;
 use std::alloc::Global;
-use super::*;
 
 impl SlipRefusal {
     // Its number in the list of refusals.

@@ -1,0 +1,9 @@
+pub mod Derivations
+pub mod Earning
+pub mod Listed
+pub mod Order
+pub mod Reasons
+pub mod Rounds
+pub mod Settling
+pub mod Spine
+pub mod Steps

@@ -1,0 +1,14 @@
+pub mod Best
+pub mod Ceiling
+pub mod CeilingLaws
+pub mod Distance
+pub mod DistanceLaws
+pub mod Order
+pub mod Pair
+pub mod PairLaws
+pub mod Same
+pub mod Scale
+pub mod TotalOrder
+pub mod WorkedSums
+pub mod Yes
+pub mod YesLaws
