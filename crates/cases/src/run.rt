@@ -4,13 +4,13 @@ use std::alloc::Global;
 use std::test::*;
 
 // The input prints just this.
-pub fn prints(heap: Global, input: &[u8], expected: &str) -> Result<(), Fail> {
+pub(crate) fn prints(heap: Global, input: &[u8], expected: &str) -> Result<(), Fail> {
     let out = transcript(heap, input)?;
     check_eq(out.as_str(), expected)
 }
 
 // The same of each case, with `start` before it.
-pub fn all(heap: Global, start: &[u8], cases: &[(&[u8], &str)]) -> Result<(), Fail> {
+pub(crate) fn all(heap: Global, start: &[u8], cases: &[(&[u8], &str)]) -> Result<(), Fail> {
     for (lines, expected) in cases {
         let mut input = Vec::from_slice(heap, start)?;
         input.extend_from_slice(lines)?;
@@ -21,7 +21,7 @@ pub fn all(heap: Global, start: &[u8], cases: &[(&[u8], &str)]) -> Result<(), Fa
 }
 
 // The text `n` times.
-pub fn repeated(heap: Global, text: &str, n: usize) -> Result<String, Fail> {
+pub(crate) fn repeated(heap: Global, text: &str, n: usize) -> Result<String, Fail> {
     let mut out = String::new(heap);
     for _ in 0..n {
         out.push_str(text)?;
