@@ -1,13 +1,12 @@
 -- Every credential in force has enrolled numbers.
-use mathlib.Core.Path.{_≡_, refl, sym, ap, subst, _∙_}
-use mathlib.Core.Bool.{Bool, true, false, not, cond, _&&_}
+use mathlib.Core.Path.{_≡_, refl}
+use mathlib.Core.Bool.{Bool, true, false, not, cond}
 use mathlib.Core.List.{List, [], _∷_, _++_}
-use Prim.Native.Nat.{ℕ, zero, suc, _+_, _<_, _≤_}
+use Prim.Native.Nat.{ℕ, zero, suc, _+_, _≤_}
 use native.Mathlib.Omega.{arith}
 use lib.Dec.{ltb, leb}
-use lib.ListN.{length, take, drop}
+use lib.ListN.{length}
 use Rattle.std.specs.Holes.{removed}
-use Rattle.std.specs.shelf.Text.{sameBytes}
 use Rattle.std.specs.declared.option.Option.{Option}
 use Rattle.std.specs.declared.option.Option.the-variants.{Some, None}
 use Rattle.std.proofs.shelf.Lists.{length-append}
@@ -20,7 +19,7 @@ use Rattle.credential.specs.Same.{Credential, Statement, statement-of, says}
 use Rattle.book.specs.declared.refusal.Kind.{Kind}
 use Rattle.book.specs.declared.refusal.Kind.the-variants.{Entity, RoleName}
 use Rattle.book.specs.Names.{kind-of}
-use Rattle.book.specs.Plain.{Plain, nothing, Call, enrol, add, withdraw, Answer, numbered, at-place, refused, first, among, names, with-name, with-credentials, enrol-answer, role-enrolled, body-enrolled, claim-enrolled, enrolled, in-range, add-answer, withdraw-answer, put-name, unless-refused, next, fed}
+use Rattle.book.specs.Plain.{Plain, Call, enrol, add, withdraw, Answer, numbered, at-place, refused, first, among, names, with-name, with-credentials, enrol-answer, role-enrolled, body-enrolled, claim-enrolled, enrolled, in-range, withdraw-answer, put-name, unless-refused, next}
 
 -- all of cs have numbers below E and R
 abbrev pub AllBelow : ℕ → ℕ → List Credential → Type 0

@@ -1,11 +1,11 @@
 -- The names of a plain book are names of their kind, and each is found at its own number.
-use mathlib.Core.Path.{_≡_, refl, sym, ap, subst, _∙_}
+use mathlib.Core.Path.{_≡_, refl, ap, _∙_}
 use mathlib.Core.Bool.{Bool, true, false, cond}
 use mathlib.Core.Logic.{⊎-elim}
 use mathlib.Core.List.{List, [], _∷_, _++_}
-use Prim.Native.Nat.{ℕ, zero, suc, _+_, _<_, _≤_}
+use Prim.Native.Nat.{ℕ, suc, _+_, _<_, _≤_}
 use native.Mathlib.Omega.{arith}
-use lib.Dec.{ltb, leb}
+use lib.Dec.{leb}
 use lib.ListN.{length, getD}
 use Rattle.std.specs.shelf.Text.{sameBytes}
 use Rattle.std.specs.declared.option.Option.{Option}
@@ -17,7 +17,7 @@ use Rattle.credential.specs.Same.{Credential}
 use Rattle.book.specs.declared.refusal.Kind.{Kind}
 use Rattle.book.specs.declared.refusal.Kind.the-variants.{Entity, RoleName}
 use Rattle.book.specs.Names.{entity, role-name, kind-of}
-use Rattle.book.specs.Plain.{Plain, nothing, Call, enrol, add, withdraw, Answer, numbered, at-place, refused, first, among, names, most, with-name, with-credentials, enrol-answer, add-answer, withdraw-answer, put-name, effect, unless-refused, next, fed}
+use Rattle.book.specs.Plain.{Plain, Call, enrol, add, withdraw, Answer, numbered, at-place, refused, first, among, names, most, with-name, with-credentials, enrol-answer, add-answer, withdraw-answer, put-name, unless-refused, next, fed}
 
 first-append : {X : Type 0} (p : X → Bool) (xs ys : List X) → first p xs < length xs → first p (xs ++ ys) ≡ first p xs
 first-append p [] ys h = absurd (omega arith)

@@ -1,6 +1,5 @@
 -- The plain book: what enrol, add and withdraw answer and change, told of lists alone. It is fed
 -- the calls' arguments, starts with nothing, and a refused call changes nothing.
-use mathlib.Core.Path.{_≡_}
 use mathlib.Core.Bool.{Bool, true, not, cond, _&&_}
 use mathlib.Core.List.{List, [], _∷_, _++_}
 use Prim.Native.Nat.{ℕ, suc}

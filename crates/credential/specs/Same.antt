@@ -1,5 +1,5 @@
 -- When two credentials are the same statement.
-use mathlib.Core.Bool.{Bool, true, false, _&&_}
+use mathlib.Core.Bool.{Bool, false, _&&_}
 use lib.Dec.{eqb}
 use Rattle.credential.specs.declared.Role.{Role}
 use Rattle.credential.specs.declared.Record.{Record}

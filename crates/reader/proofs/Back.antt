@@ -26,7 +26,7 @@ use Rattle.reader.specs.declared.tokens.Verb.the-variants as verb
 use Rattle.reader.specs.Sentences.{role-by, phrase-by, sentence-by}
 use Rattle.reader.specs.Tokens.{Tok, one, role, link, number, mark, token-of, text, sign-text, Sound}
 use Rattle.reader.specs.Verbs.{verb-of}
-use Rattle.reader.specs.Grammar.{Command, enrol, add, withdraw, present, Got, then, picked, fit, role-in, number-in, same-sign, sign-in, a-role, a-number, a-sign, a-word, weight-at, second-at, body-by, body-at, statement-at, weighed-at, credential-at, command-by, command-at, only, done, closed, command-line}
+use Rattle.reader.specs.Grammar.{Command, enrol, add, withdraw, present, Got, then, picked, fit, role-in, number-in, same-sign, sign-in, a-role, a-number, a-sign, a-word, weight-at, second-at, body-by, body-at, statement-at, weighed-at, credential-at, command-by, command-at, done, closed, command-line}
 use Rattle.reader.specs.Spelling.{dotted, role-word, body-words, statement-words, weight-words, no-words, spelled, spelled-bare}
 use Rattle.reader.specs.RoundTrip.{Fits32}
 use Rattle.reader.proofs.Forth.{RoleOk, BodyOk, Good, Nothing}

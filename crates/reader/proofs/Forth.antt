@@ -1,6 +1,6 @@
 -- What a statement spells is read as that statement.
-use mathlib.Core.Path.{_≡_, refl, sym, ap, subst, _∙_}
-use mathlib.Core.Bool.{Bool, true, false}
+use mathlib.Core.Path.{_≡_, refl, sym, ap, _∙_}
+use mathlib.Core.Bool.{true}
 use mathlib.Core.List.{List, [], _∷_, _++_}
 use Prim.Native.Nat.{ℕ, _+_}
 use native.Mathlib.Omega.{arith}
@@ -10,9 +10,9 @@ use lib.ListN.{length}
 use mir.Syntax.{w32}
 use mir.Val.{SFits}
 use Rattle.std.specs.declared.option.Option.the-variants.{Some}
-use Rattle.std.specs.declared.result.Result.the-variants.{Ok, Err}
+use Rattle.std.specs.declared.result.Result.the-variants.{Ok}
 use Rattle.std.specs.Written.{signed}
-use Rattle.words.specs.Split.{Placed, split, placed, rejoin, Lacks, EachLacks}
+use Rattle.words.specs.Split.{Placed, placed, rejoin, Lacks, EachLacks}
 use Rattle.words.proofs.Laws.{split-only, lacks-append}
 use Rattle.credential.specs.declared.Record.{Record}
 use Rattle.book.specs.Names.{entity, role-name}
@@ -20,9 +20,9 @@ use Rattle.reader.specs.declared.sentence.RoleText.{RoleText}
 use Rattle.reader.specs.declared.sentence.Phrase.{Phrase}
 use Rattle.reader.specs.declared.sentence.Phrase.the-variants.{Member, Delegation, Link, Intersection}
 use Rattle.reader.specs.declared.sentence.Sentence.{Sentence}
-use Rattle.reader.specs.declared.tokens.Sign.the-variants.{Arrow, And, Colon}
-use Rattle.reader.specs.Tokens.{Tok, one, role, link, number, mark, token-of}
-use Rattle.reader.specs.Grammar.{Command, add, withdraw, present, Got, then, picked, fit, role-in, a-role, a-number, a-sign, weight-at, second-at, body-by, body-at, statement-at, weighed-at, credential-at, command-at, done, closed, command-line}
+use Rattle.reader.specs.declared.tokens.Sign.the-variants.{Arrow}
+use Rattle.reader.specs.Tokens.{one, role, link, number, token-of}
+use Rattle.reader.specs.Grammar.{Command, add, withdraw, present, then, picked, fit, role-in, a-sign, weight-at, second-at, body-by, body-at, statement-at, weighed-at, credential-at, command-at, done, closed, command-line}
 use Rattle.reader.specs.Spelling.{dotted, role-word, body-words, statement-words, weight-words, no-words, spelled, spelled-bare}
 use Rattle.reader.specs.RoundTrip.{Fits32}
 use Rattle.reader.proofs.Chains.{then-then}

@@ -1,25 +1,24 @@
 -- Names and their numbers, both ways.
 use mathlib.Core.Path.{_≡_, refl, sym, ap, subst, _∙_}
-use mathlib.Core.Bool.{Bool, true, false, cond, _&&_}
+use mathlib.Core.Bool.{Bool, true, false, cond}
 use mathlib.Core.List.{List, [], _∷_}
-use Prim.Native.Nat.{ℕ, zero, suc, _+_, _<_}
+use Prim.Native.Nat.{ℕ, suc, _+_, _<_}
 use native.Mathlib.Omega.{arith}
 use lib.Dec.{ltb}
 use lib.ListN.{length, getD}
-use Rattle.std.specs.declared.option.Option.{Option}
 use Rattle.std.specs.declared.option.Option.the-variants.{Some, None}
 use Rattle.std.specs.declared.result.Result.{Result}
 use Rattle.std.specs.declared.result.Result.the-variants.{Ok, Err}
 use Rattle.std.specs.shelf.Text.{sameBytes}
 use Rattle.std.proofs.shelf.Equals.{sameBytes-decides}
-use Rattle.std.proofs.shelf.Tests.{and-parts, and-from, ltb-true, lt-ltb, cond-true}
+use Rattle.std.proofs.shelf.Tests.{and-parts, and-from, ltb-true, cond-true}
 use Rattle.words.specs.Split.{Placed}
 use Rattle.credential.specs.declared.Role.{Role}
 use Rattle.credential.specs.declared.Body.{Body}
 use Rattle.credential.specs.declared.Body.the-variants as body
 use Rattle.credential.specs.declared.Claim.{Claim}
 use Rattle.book.specs.Names.{entity, role-name}
-use Rattle.book.specs.Plain.{Plain, first, among, role-enrolled, body-enrolled, claim-enrolled, enrolled}
+use Rattle.book.specs.Plain.{Plain, first, among, role-enrolled, body-enrolled, enrolled}
 use Rattle.book.proofs.Sound.{SoundNames, Sound}
 use Rattle.reader.specs.declared.sentence.RoleText.{RoleText}
 use Rattle.reader.specs.declared.sentence.Phrase.{Phrase}

@@ -4,7 +4,6 @@ use mathlib.Core.Bool.{Bool, true, false, cond}
 use mathlib.Core.List.{List, [], _∷_, _++_}
 use Prim.Native.Nat.{ℕ, _+_}
 use lib.Chars.{codes}
-use lib.IntN.{ℤ}
 use lib.ListN.{length}
 use Rattle.std.specs.declared.option.Option.{Option}
 use Rattle.std.specs.declared.option.Option.the-variants.{Some, None}
@@ -23,7 +22,7 @@ use Rattle.reader.specs.declared.tokens.Verb.{Verb}
 use Rattle.reader.specs.declared.tokens.Verb.the-variants as verb
 use Rattle.reader.specs.Tokens.{Tok, one, role, link, number, mark, token-of}
 use Rattle.reader.specs.Verbs.{verb-of}
-use Rattle.reader.specs.Grammar.{Command, enrol, add, withdraw, present, Got, then, picked, fit, a-role, a-number, a-sign, a-word, just, role-in, weight-at, second-at, body-by, body-at, statement-at, weighed-at, credential-at, command-by, command-at, header-at, only, done, closed, line-by, command-line, first-line}
+use Rattle.reader.specs.Grammar.{Command, enrol, add, withdraw, present, Got, then, picked, fit, a-role, a-number, a-sign, a-word, just, role-in, weight-at, second-at, body-by, body-at, statement-at, weighed-at, credential-at, command-by, command-at, header-at, done, closed, line-by, command-line, first-line}
 use Rattle.reader.proofs.Chains.{then-then}
 use Rattle.reader.proofs.Verbing.{verb-text, is-verb, verb-test}
 use Rattle.reader.specs.Patterns.{Wanted, this, any, ENTITY, ROLE, LINKED, NUMBER, sign, fits, Pattern, patterns, header-patterns, left-of, none, fault, unless-ended, line-fault, fault-of, names-entity, names-linked}

@@ -1,5 +1,5 @@
 -- Statement lines and statements, both ways.
-use mathlib.Core.Path.{_≡_, refl, sym, ap, subst, _∙_}
+use mathlib.Core.Path.{_≡_, refl, sym, ap, _∙_}
 use mathlib.Core.Bool.{Bool, true}
 use mathlib.Core.List.{List, _++_}
 use Prim.Native.Nat.{ℕ}
@@ -15,15 +15,14 @@ use Rattle.credential.specs.declared.Claim.{Claim}
 use Rattle.credential.specs.Same.{Credential, Statement}
 use Rattle.book.specs.Plain.{Plain, Call, enrolled, fed}
 use Rattle.book.specs.Plain as plain
-use Rattle.book.proofs.Sound.{Sound, fed-sound}
+use Rattle.book.proofs.Sound.{fed-sound}
 use Rattle.reader.specs.declared.sentence.Sentence.{Sentence}
-use Rattle.reader.specs.Sentences.{sentence-by}
 use Rattle.reader.specs.Grammar.{Command, enrol, add, withdraw, present, command-line}
-use Rattle.reader.specs.Calls.{and-then, Act, calls, presents, act-of, Fault, faulty, reading, known-claim}
+use Rattle.reader.specs.Calls.{and-then, Act, calls, presents, act-of, faulty, reading, known-claim}
 use Rattle.reader.specs.Spelling.{spelled, spelled-bare, named}
 use Rattle.reader.specs.RoundTrip.{SpelledBack, Fits32, BodyFits, ReadBack}
 use Rattle.reader.proofs.Back.{add-back, withdraw-back, present-back}
-use Rattle.reader.proofs.Forth.{Nothing, sentence-from, add-forth, withdraw-forth, present-forth}
+use Rattle.reader.proofs.Forth.{Nothing, add-forth, withdraw-forth, present-forth}
 use Rattle.reader.proofs.Lookups.{err-ok, and-then-back, claim-back, claim-forth, claim-good, CarriedOk}
 
 faulty-back : {X : Type 0} (n : ℕ) (r : Result X ℕ) (x : X) → faulty n r ≡ Ok x → r ≡ Ok x

@@ -1,10 +1,9 @@
 -- A token and its bytes, both ways.
 use mathlib.Core.Path.{_≡_, refl, sym, ap, subst, _∙_}
-use mathlib.Core.Bool.{Bool, true, false, cond, _&&_, _||_}
+use mathlib.Core.Bool.{Bool, true, false, cond, _&&_}
 use mathlib.Core.List.{List, [], _∷_, _++_, append-nil}
-use Prim.Native.Nat.{ℕ, zero, suc, _+_, _≤_, _<_, _^_}
+use Prim.Native.Nat.{ℕ, suc, _+_, _≤_, _<_, _^_}
 use native.Mathlib.Omega.{arith}
-use borrow.Author.Needs.{needs}
 use lib.Dec.{eqb, ltb, leb}
 use lib.IntN.{ℤ, pos, negsuc}
 use lib.ListN.{length, getD}
@@ -20,8 +19,8 @@ use Rattle.std.proofs.shelf.Numerals.{digit-from-value, digit-at}
 use Rattle.std.proofs.shelf.Tests.{false≢true, and-parts, and-from, and-left, and-right, eqb-true, ne-eqb, lt-leb, cond-true, cond-false}
 use Rattle.words.specs.Integer.{integer}
 use Rattle.words.proofs.Spelling.{own, from-integer, integer-signed}
-use Rattle.words.specs.Split.{Placed, split, placed, rejoin, after, Lacks}
-use Rattle.words.proofs.Laws.{split-one, split-front, rejoin-split, lacks-append}
+use Rattle.words.specs.Split.{Placed, split, placed, rejoin, Lacks}
+use Rattle.words.proofs.Laws.{split-one, split-front, rejoin-split}
 use Rattle.reader.specs.declared.tokens.Sign.{Sign}
 use Rattle.reader.specs.declared.tokens.Sign.the-variants.{Arrow, And, Colon}
 use Rattle.book.specs.Names.{entity, role-name, name, name-byte, name-bytes}

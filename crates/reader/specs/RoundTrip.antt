@@ -11,7 +11,7 @@ use Rattle.credential.specs.declared.Record.{Record}
 use Rattle.credential.specs.declared.Body.{Body}
 use Rattle.credential.specs.declared.Body.the-variants.{Member, Delegation, Link, Intersection}
 use Rattle.credential.specs.Same.{Credential, Statement}
-use Rattle.book.specs.Plain.{Plain, Call, add, withdraw, enrolled, fed}
+use Rattle.book.specs.Plain.{Plain, add, withdraw, enrolled}
 use Rattle.reader.specs.Calls.{calls, presents, reading}
 use Rattle.reader.specs.Spelling.{spelled, spelled-bare, named}
 

@@ -3,7 +3,6 @@ use mathlib.Core.List.{List}
 use Prim.Native.Nat.{ℕ}
 use Rattle.std.specs.declared.result.Result.{Result}
 use Rattle.std.specs.declared.result.Result.the-variants.{Ok, Err}
-use Rattle.words.specs.declared.part.Part.{Part}
 use Rattle.words.specs.Split.{Placed}
 use Rattle.words.specs.Cursor.{told}
 use Rattle.reader.specs.declared.faults.Malformed.{Malformed}

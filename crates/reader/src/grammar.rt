@@ -1,7 +1,6 @@
 // A line read word by word. Each function takes words off the front; `end` is the byte just past
 // the line, where a missing word stands.
 ghost use mathlib.Core.Path.{_≡_};
-ghost use lib.Chars.{codes};
 ghost use Rattle.words.specs.Cursor.{told, todo};
 ghost use Rattle.reader.specs.Sentences.{role-by, phrase-by, sentence-by};
 ghost use Rattle.reader.specs.Grammar.{fit, a-role, a-number, a-sign, a-word, just, weight-at, second-at, body-at, statement-at, weighed-at, credential-at, command-at, header-at, only, done, closed, command-line, first-line};

@@ -3,7 +3,7 @@ ghost use mathlib.Core.Path.{_≡_};
 ghost use Rattle.std.specs.Options.{mapped};
 ghost use Rattle.std.specs.shelf.Text.{sameBytes};
 ghost use Rattle.words.specs.Cursor.{told, Fits};
-ghost use Rattle.reader.specs.Tokens.{said, sign-of, single, token-of, Texts};
+ghost use Rattle.reader.specs.Tokens.{said, sign-of, single, token-of};
 ghost use Rattle.reader.specs.Verbs.{verb-of};
 use crate::sentence::RoleText;
 use book::is_entity;

@@ -1,14 +1,12 @@
 -- No derivation weighs more than a closed table has, and an earned weight is its candidate's in the final table.
-use mathlib.Core.Path.{_≡_, refl, sym, ap, _∙_, subst}
+use mathlib.Core.Path.{_≡_, refl, sym, subst}
 use mathlib.Core.List.{List, [], _∷_, map, List·Memᴰ, List·Memᴰ·head, List·Memᴰ·tail}
-use Prim.Native.Nat.{ℕ, zero, suc, _<_, _≤_}
+use Prim.Native.Nat.{ℕ, suc}
 use native.Mathlib.Omega.{arith}
 use Rattle.std.specs.declared.option.Option.{Option}
-use Rattle.std.specs.declared.option.Option.the-variants.{None}
-use Rattle.scale.specs.Scale.{Meaning, Laws, Chooses, better-of, combined, full-weight, AtLeast}
-use Rattle.scale.specs.Best.{best-of}
-use Rattle.rules.specs.System.{Candidate, System, Table, product, weighs, round, after, Closed}
-use Rattle.rules.proofs.Order.{at-least-refl, at-least-trans, at-least-antisym, at-least-none, best-upper, combine-mono-both}
+use Rattle.scale.specs.Scale.{Meaning, Laws, AtLeast}
+use Rattle.rules.specs.System.{Candidate, System, Table, product, weighs, after, Closed}
+use Rattle.rules.proofs.Order.{at-least-refl, at-least-trans, at-least-antisym, best-upper, combine-mono-both}
 use Rattle.rules.proofs.Rounds.{later, product-mono, mem-map}
 use Rattle.rules.proofs.Reasons.{Earned}
 

@@ -1,17 +1,12 @@
 -- Reasons never lead back to themselves, whichever of the equal candidates they name.
-use mathlib.Core.Path.{_≡_, refl, sym, ap, _∙_, subst}
-use mathlib.Core.Logic.{_⊎_, inl, inr}
-use mathlib.Core.List.{List, [], _∷_, map, List·Memᴰ, List·Memᴰ·head, List·Memᴰ·tail}
-use Prim.Native.Nat.{ℕ, zero, suc, _<_, _≤_, _+_, _*_, zero-le}
+use mathlib.Core.Path.{_≡_, sym, _∙_, subst}
+use mathlib.Core.List.{List·Memᴰ}
+use Prim.Native.Nat.{ℕ, _<_, _≤_}
 use native.Mathlib.Omega.{arith}
 use native.Mathlib.Decide.{decLe}
-use lib.ListN.{length}
-use Rattle.std.specs.declared.option.Option.{Option}
-use Rattle.std.specs.declared.option.Option.the-variants.{None}
-use Rattle.scale.specs.Scale.{Meaning, Laws, Chooses, better-of, combined, full-weight, AtLeast}
-use Rattle.scale.specs.Best.{best-of}
-use Rattle.rules.specs.System.{Candidate, System, Table, product, weighs, round, after, Closed}
-use Rattle.rules.proofs.Order.{at-least-refl, at-least-trans, at-least-antisym, at-least-none}
+use Rattle.scale.specs.Scale.{Meaning, Laws, AtLeast}
+use Rattle.rules.specs.System.{Candidate, System, weighs, round, after}
+use Rattle.rules.proofs.Order.{at-least-trans, at-least-antisym}
 use Rattle.rules.proofs.Rounds.{later, product-below}
 
 module _ {S C : Type 0} (M : Meaning S) (laws : Laws M) (y : System C S) (n : ℕ) where

@@ -1,16 +1,14 @@
 use mathlib.Core.Path.{_≡_, refl, sym, ap, _∙_, subst}
 use lib.ListN.{length}
-use mathlib.Core.Logic.{_⊎_, inl, inr}
 use mathlib.Core.List.{List, [], _∷_, map, List·Memᴰ, List·Memᴰ·head, List·Memᴰ·tail}
-use Prim.Native.Nat.{ℕ, zero, suc, _<_, _≤_, zero-le}
+use Prim.Native.Nat.{ℕ, zero, suc, _≤_, zero-le}
 use native.Mathlib.Omega.{arith}
 use native.Mathlib.Decide.{le-ind}
 use Rattle.std.specs.declared.option.Option.{Option}
 use Rattle.std.specs.declared.option.Option.the-variants.{None}
-use Rattle.scale.specs.Scale.{Meaning, Laws, Chooses, better-of, combined, full-weight, AtLeast}
-use Rattle.scale.specs.Best.{best-of}
-use Rattle.rules.specs.System.{Candidate, System, Table, product, weighs, round, after, Closed}
-use Rattle.rules.proofs.Order.{at-least-refl, at-least-trans, at-least-antisym, at-least-none, combine-mono-both, combine-below, combine-below-right, best-upper, best-least, best-picks}
+use Rattle.scale.specs.Scale.{Meaning, Laws, AtLeast}
+use Rattle.rules.specs.System.{System, Table, product, weighs, round, after, Closed}
+use Rattle.rules.proofs.Order.{at-least-refl, at-least-trans, at-least-none, combine-mono-both, combine-below, combine-below-right, best-upper, best-least}
 
 pub mem-map : {A B : Type 0} (f : A → B) {a : A} (xs : List A) → List·Memᴰ a xs → List·Memᴰ (f a) (map f xs)
 mem-map f [] m = elim m [ ]

@@ -1,15 +1,10 @@
 -- Where rounds end.
-use mathlib.Core.Path.{_≡_, refl, sym, ap, subst, _∙_}
-use mathlib.Core.Logic.{_⊎_, inl, inr}
-use mathlib.Core.List.{List, List·Memᴰ}
-use Prim.Native.Nat.{ℕ, zero, suc, _<_, _≤_}
+use mathlib.Core.Path.{_≡_, sym, subst}
+use Prim.Native.Nat.{ℕ, zero, suc, _≤_}
 use native.Mathlib.Omega.{arith}
 use lib.ListN.{length}
-use Rattle.credential.specs.Same.{Credential}
 use Rattle.scale.specs.Scale.{Meaning, Laws, AtLeast}
-use Rattle.rules.specs.declared.memberships.Membership.{Membership}
-use Rattle.rules.specs.System.{Table}
-use Rattle.rules.specs.Tables.{system, table, Still, Rounds, Settled}
+use Rattle.rules.specs.Tables.{system, table}
 use Rattle.rules.specs.Theorems.{LeastClosed, RoundsBounded}
 use Rattle.rules.proofs.Order.{at-least-refl}
 use Rattle.rules.proofs.Rounds.{after-least}

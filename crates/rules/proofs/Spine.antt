@@ -7,10 +7,10 @@ use native.Mathlib.Omega.{arith}
 use lib.ListN.{length}
 use Rattle.std.specs.declared.option.Option.{Option}
 use Rattle.std.specs.declared.option.Option.the-variants.{None}
-use Rattle.scale.specs.Scale.{Meaning, Laws, Chooses, better-of, combined, full-weight, AtLeast}
+use Rattle.scale.specs.Scale.{Meaning, Laws, better-of, combined, full-weight, AtLeast}
 use Rattle.scale.specs.Best.{best-of}
 use Rattle.scale.specs.Order.{weight-same}
-use Rattle.rules.specs.System.{Candidate, System, Table, product, weighs, round, after, Closed}
+use Rattle.rules.specs.System.{Candidate, System, Table, product, weighs, round, after}
 use Rattle.rules.proofs.Order.{at-least-refl, at-least-trans, at-least-antisym, at-least-none, combine-mono, combine-mono-both, combine-below, better-least, best-upper}
 use Rattle.rules.proofs.Rounds.{mem-map, after-grows, later, Changed, Settled, Distinct, distinct-fit}
 use Rattle.rules.proofs.Rounds.Distinct.{nothing, one-more}

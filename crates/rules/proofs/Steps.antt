@@ -2,30 +2,28 @@
 use mathlib.Core.Path.{_≡_, refl, sym, ap, ap₂, subst, _∙_}
 use mathlib.Core.Bool.{Bool, true, false, cond, _&&_}
 use mathlib.Core.Logic.{_⊎_, inl, inr}
-use mathlib.Core.List.{List, [], _∷_, _++_, map, List·Memᴰ, List·Memᴰ·head, List·Memᴰ·tail}
-use Prim.Native.Nat.{ℕ, zero, suc, _+_, _<_, _≤_}
-use native.Mathlib.Omega.{arith}
+use mathlib.Core.List.{List, [], _∷_, _++_, map, List·Memᴰ, List·Memᴰ·head}
+use Prim.Native.Nat.{ℕ, zero, suc, _+_, _<_}
 use lib.Dec.{eqb}
 use lib.ListN.{length}
 use Rattle.std.specs.Finite.{nth}
 use Rattle.std.specs.declared.option.Option.{Option}
 use Rattle.std.specs.declared.option.Option.the-variants.{None, Some}
-use Rattle.std.proofs.shelf.Tests.{and-parts, and-from, eqb-true, eq-eqb, cond-true, cases-lt}
-use Rattle.credential.specs.declared.Role.{Role}
+use Rattle.std.proofs.shelf.Tests.{and-parts, and-from, eqb-true, eq-eqb, cond-true}
 use Rattle.credential.specs.declared.Record.{Record}
 use Rattle.credential.specs.declared.Body.{Body}
 use Rattle.credential.specs.declared.Body.the-variants.{Member, Delegation, Link, Intersection}
-use Rattle.credential.specs.Same.{Credential, same-role}
+use Rattle.credential.specs.Same.{Credential}
 use Rattle.scale.specs.Scale.{Meaning, Laws, Chooses, combined, full-weight, AtLeast}
 use Rattle.scale.specs.Order.{none-some, some-is, combine-full-right}
 use Rattle.rules.specs.declared.memberships.Membership.{Membership}
 use Rattle.rules.specs.declared.memberships.Step.{Step}
-use Rattle.rules.specs.System.{Table, Candidate, product, weighs}
+use Rattle.rules.specs.System.{Table, product, weighs}
 use Rattle.rules.specs.Ways.{belongs, role-of, Way, way, below, ways-by, ways}
 use Rattle.rules.specs.Tables.{candidate, weight-by, system, table, ClosedTable}
 use Rattle.rules.specs.Derivation.{same-membership, Concluded, concluded, exactly, cited, by-rule, weighed, by-credential, follow, Stands, no-step, one-more, Derivation}
-use Rattle.rules.specs.Theorems.{MemberBelow, MembersEnrolled, DerivationsBelow, DerivationsReach}
-use Rattle.rules.proofs.Order.{at-least-refl, at-least-trans, combine-mono-both, best-upper, best-picks}
+use Rattle.rules.specs.Theorems.{MemberBelow, MembersEnrolled, DerivationsBelow}
+use Rattle.rules.proofs.Order.{at-least-trans, combine-mono-both, best-upper, best-picks}
 use Rattle.rules.proofs.Rounds.{mem-map, mem-of-map}
 use Rattle.rules.proofs.Listed.{role-is, role-self, mem-below, Named, From, comes-from, listed}
 

@@ -1,8 +1,6 @@
 -- A refusal as it is shown and as it is printed.
-use mathlib.Core.Path.{_≡_, refl, sym, ap, _∙_}
-use mathlib.Core.List.{List, [], _∷_, _++_, append-assoc}
-use Prim.Native.Nat.{ℕ}
-use Rattle.std.specs.Written.{decimal}
+use mathlib.Core.Path.{_≡_}
+use mathlib.Core.List.{[], _∷_, _++_, append-assoc}
 use Rattle.reader.specs.declared.faults.ReadFault.{ReadFault}
 use Rattle.reader.specs.declared.faults.ReadFault.the-variants.{Malformed, Unknown, Refused, NotPresented}
 use Rattle.reader.specs.Answers.{fault-said}

@@ -1,6 +1,4 @@
 -- A session's register, book and slip as the state that lines change.
-use mathlib.Core.List.{[]}
-use Rattle.book.specs.Plain.{nothing}
 use Rattle.reader.specs.Calls.{State}
 use Rattle.reader.specs.Answers as answers
 use Rattle.session.specs.declared.state.Session.{Session}

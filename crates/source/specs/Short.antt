@@ -1,9 +1,9 @@
 -- No source shows more than 65,535: proofs that the sources' own values cite.
 use mathlib.Core.Path.{_≡_, refl, ap}
-use mathlib.Core.List.{List, [], _∷_, _++_}
+use mathlib.Core.List.{List, [], _∷_}
 use Prim.Native.Nat.{ℕ, suc, _≤_}
 use native.Mathlib.Omega.{arith}
-use lib.ListN.{length, take, length-take}
+use lib.ListN.{length, length-take}
 use Rattle.credential.specs.Same.{Credential}
 use Rattle.book.specs.declared.store.Book.{Book}
 use Rattle.book.specs.Kept.{listed}

@@ -1,10 +1,8 @@
 // Sources made of others: a reference, nothing, and one after another.
 ghost use mathlib.Core.Path.{_≡_};
-ghost use mathlib.Core.List.{List, []};
-ghost use Prim.Native.Nat.{_≤_};
+ghost use mathlib.Core.List.{[]};
 ghost use denote.Ref.{now};
-ghost use lib.ListN.{length};
-ghost use Rattle.source.specs.Shows.{Shown, joined, JoinsAssociate};
+ghost use Rattle.source.specs.Shows.{joined, JoinsAssociate};
 ghost use Rattle.source.specs.Short.{cut-short, none-short};
 use crate::sources::Origin;
 use crate::sources::Source;

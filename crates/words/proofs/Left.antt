@@ -4,7 +4,7 @@ use mathlib.Core.Bool.{Bool, true, false, cond}
 use mathlib.Core.List.{List, [], _∷_}
 use Prim.Native.Nat.{ℕ}
 use lib.Dec.{eqb}
-use Rattle.words.specs.Split.{Placed, onto, split, placed}
+use Rattle.words.specs.Split.{onto, split, placed}
 use Rattle.words.specs.Cursor.{none}
 
 some-onto : (n b : ℕ) (ws : List (List ℕ)) → none (placed n (onto b ws)) ≡ false

@@ -16,7 +16,7 @@ use Rattle.std.proofs.shelf.Lists.{take-at, length-take}
 use Rattle.std.proofs.shelf.Tests.{false≢true}
 use Rattle.credential.specs.declared.Record.{Record}
 use Rattle.credential.specs.Same.{Credential}
-use Rattle.book.specs.Plain.{Plain, Call, add, enrolled, fed}
+use Rattle.book.specs.Plain.{Plain, add, enrolled}
 use Rattle.reader.specs.Calls.{calls, reading}
 use Rattle.reader.specs.declared.sentence.Sentence.{Sentence}
 use Rattle.reader.specs.Spelling.{spelled}

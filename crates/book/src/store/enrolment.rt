@@ -1,17 +1,14 @@
 // The register: names are enrolled, found by their spelling and spelled by their number.
 ghost use mathlib.Core.Path.{_≡_};
-ghost use mathlib.Core.Bool.{cond};
-ghost use mathlib.Core.List.{[], _∷_, _++_, map};
+ghost use mathlib.Core.List.{[], map};
 ghost use Prim.Native.Nat.{_≤_, _<_};
 ghost use denote.Ref.{now};
-ghost use lib.Dec.{leb};
 ghost use lib.ListN.{length};
 ghost use Rattle.std.specs.Finite.{nth};
 ghost use Rattle.std.specs.Of.Vec.{vec-len, vec-items, vec-cap};
 ghost use Rattle.std.specs.Options.{mapped};
 ghost use Rattle.std.specs.Slices.{found};
 ghost use Rattle.std.specs.Vec.{made};
-ghost use Rattle.std.specs.shelf.Text.{sameBytes};
 ghost use Rattle.book.specs.declared.store.Book.{Book as AnyBook};
 ghost use Rattle.book.specs.Plain.{answer, next, enrol, among};
 ghost use Rattle.book.specs.Kept.{spelled, entities, role-names, plain, enrol-said, Stands-after, name-number};

@@ -1,6 +1,5 @@
 use mathlib.Core.Path.{_≡_, sym, ap, _∙_}
 use native.Mathlib.Omega.{arith}
-use borrow.Author.Needs.{needs}
 use Rattle.book.specs.Plain.{first}
 use Rattle.book.proofs.Firsts.{first-more, first-found, first-none}
 use Rattle.book.proofs.store.Book.place_of.Needs as need

@@ -1,4 +1,4 @@
-use mathlib.Core.Path.{_≡_, ap, subst, _∙_}
+use mathlib.Core.Path.{subst, _∙_}
 use mathlib.Core.Bool.{not}
 use Rattle.std.specs.Of.String.{string-bytes}
 use Rattle.words.specs.Cursor.{told, todo}

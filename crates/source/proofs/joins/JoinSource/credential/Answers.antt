@@ -1,6 +1,5 @@
-use mathlib.Core.Path.{_≡_, sym, _∙_}
+use mathlib.Core.Path.{_∙_}
 use native.Mathlib.Omega.{arith}
-use lib.ListN.{length}
 use Rattle.source.proofs.Rows.{join-past, join-first, join-second}
 use Rattle.source.proofs.joins.JoinSource.credential.Needs as need
 
