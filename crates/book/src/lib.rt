@@ -1,4 +1,6 @@
 // The state of a gate: the register of names and the book of credentials in force.
+#![tactic(auto)]
+
 pub mod refusal;
 pub mod store;
 

@@ -1,4 +1,6 @@
 // Whole runs of the gate as tests: each case is an input and the text that it prints.
+#![tactic(auto)]
+
 #[cfg(test)]
 mod header;
 #[cfg(test)]

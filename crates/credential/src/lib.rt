@@ -1,4 +1,6 @@
 // What the gate is told: credentials over numbered entities and role names.
+#![tactic(auto)]
+
 ghost use Rattle.std.specs.Prelude.{◌≡◌, Decides};
 ghost use Rattle.credential.specs.Same.{statement_of, says};
 

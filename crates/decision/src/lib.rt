@@ -1,4 +1,6 @@
 // Decide: whether a membership is settled with at least the weight that is asked for.
+#![tactic(auto)]
+
 pub mod admission;
 pub mod deciding;
 mod ruling;

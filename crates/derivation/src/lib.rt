@@ -1,4 +1,6 @@
 // Why a membership is settled: the steps of a derivation, from the reasons of a settled table.
+#![tactic(auto)]
+
 pub mod explanation;
 mod trail;
 

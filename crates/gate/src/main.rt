@@ -1,4 +1,6 @@
 // Reads standard input, and prints what the gate answers.
+#![tactic(auto)]
+
 use session::{MOST_BYTES, transcript};
 use std::io;
 use std::io::{Read, Write};

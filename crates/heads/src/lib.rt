@@ -1,4 +1,6 @@
 // The checking pass: which credentials can be settled, and the numbers of their heads.
+#![tactic(auto)]
+
 pub mod admission;
 pub mod index;
 

@@ -1,4 +1,6 @@
 // The lines of the gate's text: read word by word, looked up in the register, and obeyed.
+#![tactic(auto)]
+
 pub mod faults;
 pub mod grammar;
 pub mod lines;

@@ -1,4 +1,6 @@
 // Reads standard input, and prints every statement that is in force at its end.
+#![tactic(auto)]
+
 use session::{MOST_BYTES, roster};
 use std::io;
 use std::io::{Read, Write};

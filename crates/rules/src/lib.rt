@@ -1,4 +1,6 @@
 // The rules: what credentials give, round by round, and what is true of every table they settle.
+#![tactic(auto)]
+
 pub mod cells;
 pub mod memberships;
 #[cfg(test)]

@@ -1,4 +1,6 @@
 // A decision on the scale that a word names, over the book and the slip.
+#![tactic(auto)]
+
 pub mod asking;
 pub mod weights;
 

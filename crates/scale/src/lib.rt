@@ -3,6 +3,8 @@
 // A weight of the scale S is an `Option<S>`, and `None` is the weight none. So S itself holds the
 // weights other than none, and an interface below is implemented by them. The functions over
 // weights, none among them, are in `weight`.
+#![tactic(auto)]
+
 ghost use Rattle.std.specs.Prelude.{◌≡◌, Decides};
 ghost use Rattle.scale.specs.Scale.{Meaning, Laws, Chooses, Strict, Solid};
 

@@ -1,4 +1,6 @@
 // One run of the gate: an input answered line by line.
+#![tactic(auto)]
+
 pub mod listing;
 pub mod printing;
 pub mod running;

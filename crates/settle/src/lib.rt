@@ -1,4 +1,6 @@
 // Settling: rounds over what a source shows, until one changes nothing.
+#![tactic(auto)]
+
 mod changes;
 pub mod offers;
 mod rounds;

@@ -1,4 +1,6 @@
 // Sources: what a decision reads. The book, the slip that a client presents, and any pile of them.
+#![tactic(auto)]
+
 pub mod joins;
 pub mod layers;
 pub mod slips;

@@ -1,4 +1,6 @@
 // The walk from a goal along reasons: the cells that they lead to, premises first, as the steps of a derivation.
+#![tactic(auto)]
+
 pub mod grant;
 mod order;
 pub mod reasons;

@@ -1,5 +1,7 @@
 // One statement, spelled as an add line spells it and put into a buffer that is lent. No call wants
 // memory: the text is made up in a draft of fixed size and copied once.
+#![tactic(auto)]
+
 mod call;
 mod draft;
 mod names;
