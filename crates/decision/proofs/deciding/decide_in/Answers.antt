@@ -15,32 +15,32 @@ use Rattle.decision.specs.Decided.{RuledCells}
 use Rattle.decision.proofs.Outcomes.{roomy, fronted, decided}
 use Rattle.decision.proofs.deciding.decide_in.Given as given
 use Rattle.decision.proofs.deciding.decide_in.Goals as goal
-use Rattle.decision.proofs.deciding.decide_in.Goals.{After-entity-count-entities}
+use Rattle.decision.proofs.deciding.decide_in.Goals.{After-entity_count-entities}
 
 pub fit-requires : goal.fit-requires
 fit-requires g c = index_none (replicate 2048 65535) 2048 refl refl
 
 -- the cells, by the code's numbers
-cells : (g : given.Over) (c : After-entity-count-entities g) → c.in-ok-asked.heads * c.entity-count-entities.result ≡ many_cells (length (entities c.args.register.now)) (stated (g.R.Source.shows c.args.source.now))
-cells g c = ap₂ (λ a b. a * b) c.in-ok-asked.ensures.1.many_heads c.entity-count-entities.ensures.value
+cells : (g : given.Over) (c : After-entity_count-entities g) → c.in_ok-asked.heads * c.entity_count-entities.result ≡ many_cells (length (entities c.args.register.now)) (stated (g.R.Source.shows c.args.source.now))
+cells g c = ap₂ (λ a b. a * b) c.in_ok-asked.ensures.1.many_heads c.entity_count-entities.ensures.value
 
 pub overflow-mul-need : goal.overflow-mul-need
 overflow-mul-need g c =
     let xs = g.R.Source.shows c.args.source.now in
-    let f = c.in-ok-asked.ensures.1 in
-    omega (arith, few_cells c.entity-count-entities.result c.in-ok-asked.heads (stated xs) c.entity-count-entities.ensures.bound (omega (arith, length_stated xs, f.few)) f.many_heads)
+    let f = c.in_ok-asked.ensures.1 in
+    omega (arith, few_cells c.entity_count-entities.result c.in_ok-asked.heads (stated xs) c.entity_count-entities.ensures.bound (omega (arith, length_stated xs, f.few)) f.many_heads)
 
 pub rule-requires : goal.rule-requires
 rule-requires g c =
     let xs = g.R.Source.shows c.args.source.now in
-    let f = c.in-ok-asked.ensures.1 in
+    let f = c.in_ok-asked.ensures.1 in
     let E = length (entities c.args.register.now) in
     let R = length (role_names c.args.register.now) in
-    let is : E ≡ c.entity-count-entities.result = sym c.entity-count-entities.ensures.value in
+    let is : E ≡ c.entity_count-entities.result = sym c.entity_count-entities.ensures.value in
     let goal = and_parts _ _ f.enrolled in
-    let room = roomy (lists c.args.former.now c.args.latest.now c.args.reasons.now c.args.steps.now) (c.in-ok-asked.heads * c.entity-count-entities.result) c.if-is-short.ensures in
+    let room = roomy (lists c.args.former.now c.args.latest.now c.args.reasons.now c.args.steps.now) (c.in_ok-asked.heads * c.entity_count-entities.result) c.if-is_short.ensures in
     record {
-      few = c.entity-count-entities.ensures.bound;
+      few = c.entity_count-entities.ensures.bound;
       known = subst (λ n. AllIn n (stated xs)) is (all_in g.S.Scale.meaning E R (few_role_names c.args.register.now) (stated xs) f.good);
       short = omega (arith, length_stated xs, f.few);
       indexed = f.indexed;
@@ -55,18 +55,18 @@ rule-requires g c =
 
 pub returns : goal.returns
 returns g c =
-    let at = (goal.at.returns g c).After-entity-count-entities in
+    let at = (goal.at.returns g c).After-entity_count-entities in
     let M = g.S.Scale.meaning in
     let xs = g.R.Source.shows c.args.source.now in
     let E = length (entities c.args.register.now) in
     let many = cells g at in
-    let goal = c.in-ok-asked.heads * c.entity-count-entities.result in
+    let goal = c.in_ok-asked.heads * c.entity_count-entities.result in
     let cells_left = lists c.rule.new.former c.rule.new.latest c.rule.new.reasons c.rule.new.steps in
-    let ruled : RuledCells M E (stated xs) c.args.goal c.in-ok-asked.asked c.args.steps.now cells_left c.rule.result = subst (λ n. RuledCells M n (stated xs) c.args.goal c.in-ok-asked.asked c.args.steps.now cells_left c.rule.result) c.entity-count-entities.ensures.value c.rule.ensures in
-    decided M E (length (role_names c.args.register.now)) xs c.args.goal c.args.threshold (lists c.args.former.now c.args.latest.now c.args.reasons.now c.args.steps.now) _ c.rule.result c.in-ok-asked.asked
-    c.in-ok-asked.ensures.0
-    (c.if-is-short.ensures ∙ ap (short (lists c.args.former.now c.args.latest.now c.args.reasons.now c.args.steps.now)) many)
-    c.in-ok-asked.ensures.1.asks
+    let ruled : RuledCells M E (stated xs) c.args.goal c.in_ok-asked.asked c.args.steps.now cells_left c.rule.result = subst (λ n. RuledCells M n (stated xs) c.args.goal c.in_ok-asked.asked c.args.steps.now cells_left c.rule.result) c.entity_count-entities.ensures.value c.rule.ensures in
+    decided M E (length (role_names c.args.register.now)) xs c.args.goal c.args.threshold (lists c.args.former.now c.args.latest.now c.args.reasons.now c.args.steps.now) _ c.rule.result c.in_ok-asked.asked
+    c.in_ok-asked.ensures.0
+    (c.if-is_short.ensures ∙ ap (short (lists c.args.former.now c.args.latest.now c.args.reasons.now c.args.steps.now)) many)
+    c.in_ok-asked.ensures.1.asks
     record {
       rules = ruled.rules;
       former = fronted c.rule.new.former (weights_after M E (stated xs) (rounds_in c.rule.result)) c.args.former.now goal (many_cells E (stated xs)) ruled.former many;

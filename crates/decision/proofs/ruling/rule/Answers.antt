@@ -11,40 +11,40 @@ use Rattle.derivation.specs.Explained.{Reasoned}
 use Rattle.decision.proofs.Rulings.{goal-weight, denied, granted}
 use Rattle.decision.proofs.ruling.rule.Given as given
 use Rattle.decision.proofs.ruling.rule.Goals as goal
-use Rattle.decision.proofs.ruling.rule.Goals.{After-weight-of-best}
+use Rattle.decision.proofs.ruling.rule.Goals.{After-weight_of-best}
 
-pub weight-of-best-requires : goal.weight-of-best-requires
-weight-of-best-requires g c =
+pub weight_of-best-requires : goal.weight_of-best-requires
+weight_of-best-requires g c =
     let cs = stated (g.R.Source.shows c.args.source.now) in
     let many = c.requires.many in
     let held = (rooms c.args.index.now (heads cs) c.args.entities (length c.settle-rounds.new.latest) c.requires.indexed (c.settle-rounds.auto.latest ∙ c.requires.latest_long ∙ ap (λ k. k * c.args.entities) many)).held c.args.goal.role (omega arith) (omega arith) in
     record {
-      held = subst (Held (length c.settle-rounds.new.latest) c.args.entities) (sym c.head-of-head.ensures) held;
+      held = subst (Held (length c.settle-rounds.new.latest) c.args.entities) (sym c.head_of-head.ensures) held;
       within = c.requires.member;
     }
 
 -- what was found for the goal is its settled weight
-found : (g : given.Over) (c : After-weight-of-best g) → c.weight-of-best.result ≡ table g.S.Scale.meaning c.args.entities (stated (g.R.Source.shows c.args.source.now)) c.settle-rounds.result c.args.goal
+found : (g : given.Over) (c : After-weight_of-best g) → c.weight_of-best.result ≡ table g.S.Scale.meaning c.args.entities (stated (g.R.Source.shows c.args.source.now)) c.settle-rounds.result c.args.goal
 found g c =
-    c.weight-of-best.ensures
-    ∙ ap (λ (h : Option ℕ). weight_at c.settle-rounds.new.latest c.args.entities h c.args.goal.member.0) c.head-of-head.ensures
+    c.weight_of-best.ensures
+    ∙ ap (λ (h : Option ℕ). weight_at c.settle-rounds.new.latest c.args.entities h c.args.goal.member.0) c.head_of-head.ensures
     ∙ goal-weight g.S.Scale.meaning g.S.Scale.laws c.args.entities (stated (g.R.Source.shows c.args.source.now)) c.requires.known c.args.goal c.args.index.now c.requires.indexed c.requires.few c.requires.role c.requires.member c.settle-rounds.result c.settle-rounds.new.latest c.settle-rounds.ensures.latest
 
-pub returns-in-default : goal.returns-in-default
-returns-in-default g c =
-    let at = (goal.at.returns-in-default g c).After-weight-of-best in
+pub returns-in_default : goal.returns-in_default
+returns-in_default g c =
+    let at = (goal.at.returns-in_default g c).After-weight_of-best in
     record {
-      rules = denied g.S.Scale.meaning g.S.Scale.laws c.args.entities (stated (g.R.Source.shows c.args.source.now)) c.requires.known c.args.goal c.settle-rounds.result c.settle-rounds.ensures.settles c.args.asked None (sym c.in-default.is ∙ found g at) (λ h. none_some (sym h)) c.args.steps.now;
+      rules = denied g.S.Scale.meaning g.S.Scale.laws c.args.entities (stated (g.R.Source.shows c.args.source.now)) c.requires.known c.args.goal c.settle-rounds.result c.settle-rounds.ensures.settles c.args.asked None (sym c.in_default.is ∙ found g at) (λ h. none_some (sym h)) c.args.steps.now;
       former = c.settle-rounds.ensures.former;
       latest = c.settle-rounds.ensures.latest;
       reasons = c.settle-rounds.ensures.reasons;
     }
 
-pub returns-then-not-at-least : goal.returns-then-not-at-least
-returns-then-not-at-least g c =
-    let at = (goal.at.returns-then-not-at-least g c).After-weight-of-best in
+pub returns-then-not-at_least : goal.returns-then-not-at_least
+returns-then-not-at_least g c =
+    let at = (goal.at.returns-then-not-at_least g c).After-weight_of-best in
     record {
-      rules = denied g.S.Scale.meaning g.S.Scale.laws c.args.entities (stated (g.R.Source.shows c.args.source.now)) c.requires.known c.args.goal c.settle-rounds.result c.settle-rounds.ensures.settles c.args.asked (Some c.in-Some.weight) (sym c.in-Some.is ∙ found g at) (λ h. let z = sym c.if-not-at-least.true ∙ c.at-least.ensures.1 (some_is h) in absurd (let y : ◌≡◌ {A = ℕ} 0 1 = cc in omega arith)) c.args.steps.now;
+      rules = denied g.S.Scale.meaning g.S.Scale.laws c.args.entities (stated (g.R.Source.shows c.args.source.now)) c.requires.known c.args.goal c.settle-rounds.result c.settle-rounds.ensures.settles c.args.asked (Some c.in-Some.weight) (sym c.in-Some.is ∙ found g at) (λ h. let z = sym c.if-not-at_least.true ∙ c.at_least.ensures.1 (some_is h) in absurd (let y : ◌≡◌ {A = ℕ} 0 1 = cc in omega arith)) c.args.steps.now;
       former = c.settle-rounds.ensures.former;
       latest = c.settle-rounds.ensures.latest;
       reasons = c.settle-rounds.ensures.reasons;
@@ -52,7 +52,7 @@ returns-then-not-at-least g c =
 
 pub explain-steps-requires : goal.explain-steps-requires
 explain-steps-requires g c =
-    let at = (goal.at.explain-steps-requires g c).After-weight-of-best in
+    let at = (goal.at.explain-steps-requires g c).After-weight_of-best in
     record {
       few = c.requires.few;
       known = c.requires.known;
@@ -63,16 +63,16 @@ explain-steps-requires g c =
         c.settle-rounds.result,
         record { still = c.settle-rounds.ensures.settles.still; are = c.settle-rounds.ensures.reasons; settled = λ e. none_some (sym (sym c.in-Some.is ∙ found g at ∙ e)) },
       );
-      room = c.requires.steps-room;
+      room = c.requires.steps_room;
     }
 
 pub returns : goal.returns
 returns g c =
-    let at = (goal.at.returns g c).After-weight-of-best in
+    let at = (goal.at.returns g c).After-weight_of-best in
     let is : Some c.in-Some.weight ≡ table g.S.Scale.meaning c.args.entities (stated (g.R.Source.shows c.args.source.now)) c.settle-rounds.result c.args.goal = sym c.in-Some.is ∙ found g at in
     let why : Reasoned g.S.Scale.meaning c.args.entities (stated (g.R.Source.shows c.args.source.now)) c.settle-rounds.new.reasons c.args.goal c.settle-rounds.result = record { still = c.settle-rounds.ensures.settles.still; are = c.settle-rounds.ensures.reasons; settled = λ e. none_some (sym (is ∙ e)) } in
     record {
-      rules = granted g.S.Scale.meaning g.S.Scale.laws c.args.entities (stated (g.R.Source.shows c.args.source.now)) c.requires.known c.args.goal c.settle-rounds.result c.settle-rounds.ensures.settles c.args.asked g.S.Scale.chooses c.in-Some.weight is (ap Some (c.at-least.ensures.0 c.if-not-at-least.false)) c.explain-steps.result c.args.steps.now c.explain-steps.new.steps (c.explain-steps.ensures.granted c.settle-rounds.result why, c.explain-steps.ensures.derives c.settle-rounds.result c.in-Some.weight why (sym is));
+      rules = granted g.S.Scale.meaning g.S.Scale.laws c.args.entities (stated (g.R.Source.shows c.args.source.now)) c.requires.known c.args.goal c.settle-rounds.result c.settle-rounds.ensures.settles c.args.asked g.S.Scale.chooses c.in-Some.weight is (ap Some (c.at_least.ensures.0 c.if-not-at_least.false)) c.explain-steps.result c.args.steps.now c.explain-steps.new.steps (c.explain-steps.ensures.granted c.settle-rounds.result why, c.explain-steps.ensures.derives c.settle-rounds.result c.in-Some.weight why (sym is));
       former = c.settle-rounds.ensures.former;
       latest = c.settle-rounds.ensures.latest;
       reasons = c.settle-rounds.ensures.reasons;

@@ -5,8 +5,8 @@ use Rattle.heads.proofs.Fewer.{few_cells}
 use Rattle.derivation.proofs.Explaining.{goal-member, goal-role, ready, acyclic, goal_cell, cell_inside, granted, derives}
 use Rattle.derivation.proofs.explanation.explain.Goals as goal
 
-pub cell-of-requires : goal.cell-of-requires
-cell-of-requires g c =
+pub cell_of-requires : goal.cell_of-requires
+cell_of-requires g c =
     let cs = stated (g.R.Source.shows c.args.source.now) in
     let p = c.requires in
     record {
@@ -15,8 +15,8 @@ cell-of-requires g c =
       member = goal-member g.S.Scale.laws g.S.Scale.chooses p.few p.known p.short p.indexed p.many p.settled.1;
     }
 
-pub write-grant-requires : goal.write-grant-requires
-write-grant-requires g c =
+pub write_grant-requires : goal.write_grant-requires
+write_grant-requires g c =
     let cs = stated (g.R.Source.shows c.args.source.now) in
     let p = c.requires in
     record {
@@ -35,7 +35,7 @@ unreachable-requires g c =
 pub returns : goal.returns
 returns g c =
     let p = c.requires in
-    let w = c.write-grant in
+    let w = c.write_grant in
     record {
       granted = λ n r. granted g.S.Scale.laws g.S.Scale.chooses p.few p.known p.short p.indexed p.many r c.in-Some.cell c.in-Some.ensures c.args.steps.now w.new.steps w.result w.ensures.granted;
       derives = λ n v r. derives g.S.Scale.laws g.S.Scale.chooses p.few p.known p.short p.indexed p.many r c.in-Some.cell c.in-Some.ensures c.args.steps.now w.new.steps w.result w.ensures.granted v;

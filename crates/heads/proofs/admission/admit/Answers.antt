@@ -27,23 +27,23 @@ placed g c = omega (arith, within g c, length_stated (g.R.Source.shows c.args.so
 stands : (g : given.Over) (c : In-Some g) → get_or (stated (g.R.Source.shows c.args.source.now)) c.loop-c.place c.in-Some.c ≡ c.in-Some.c
 stands g c = shown_at (g.R.Source.shows c.args.source.now) c.loop-c.place c.in-Some.c c.in-Some.ensures
 
-pub origin-of-requires : goal.origin-of-requires
-origin-of-requires g c = within g (goal.at.origin-of-requires g c).In-Some
+pub origin_of-requires : goal.origin_of-requires
+origin_of-requires g c = within g (goal.at.origin_of-requires g c).In-Some
 
-pub returns-then-not-is-good : goal.returns-then-not-is-good
-returns-then-not-is-good g c =
-    let at = (goal.at.returns-then-not-is-good g c).In-Some in
+pub returns-then-not-is_good : goal.returns-then-not-is_good
+returns-then-not-is_good g c =
+    let at = (goal.at.returns-then-not-is_good g c).In-Some in
     let xs = g.R.Source.shows c.args.source.now in
     let p = bad g.S.Scale.meaning (length (entities c.args.register.now)) (length (role_names c.args.register.now)) in
-    let here : c.loop-c.place ≡ first p (stated xs) = first_found p (stated xs) c.loop-c.place c.in-Some.c (placed g at) (ap p (stands g at) ∙ sym c.if-not-is-good.ensures) c.loop-c.invariant.3 in
-    (lt-ltb _ _ (omega (arith, placed g at, here)), subst (λ i. origin_at xs i ≡ Some c.origin-of.result) here c.origin-of.ensures)
+    let here : c.loop-c.place ≡ first p (stated xs) = first_found p (stated xs) c.loop-c.place c.in-Some.c (placed g at) (ap p (stands g at) ∙ sym c.if-not-is_good.ensures) c.loop-c.invariant.3 in
+    (lt-ltb _ _ (omega (arith, placed g at, here)), subst (λ i. origin_at xs i ≡ Some c.origin_of.result) here c.origin_of.ensures)
 
-pub note-head-heads-requires : goal.note-head-heads-requires
-note-head-heads-requires g c =
-    let at = (goal.at.note-head-heads-requires g c).In-Some in
+pub note_head-heads-requires : goal.note_head-heads-requires
+note_head-heads-requires g c =
+    let at = (goal.at.note_head-heads-requires g c).In-Some in
     let E = length (entities c.args.register.now) in
     let few = few_entities c.args.register.now in
-    let known = good_in g.S.Scale.meaning E (length (role_names c.args.register.now)) (few_role_names c.args.register.now) c.in-Some.c (sym c.if-not-is-good.ensures) in
+    let known = good_in g.S.Scale.meaning E (length (role_names c.args.register.now)) (few_role_names c.args.register.now) c.in-Some.c (sym c.if-not-is_good.ensures) in
     record {
       long = c.loop-c.invariant.0.long;
       room = omega (arith, within g at, c.requires.few);
@@ -62,18 +62,18 @@ loop-c-preserved g c =
     let xs = g.R.Source.shows c.args.source.now in
     let p = bad g.S.Scale.meaning (length (entities c.args.register.now)) (length (role_names c.args.register.now)) in
     let e = heads_more (stated xs) c.loop-c.place c.in-Some.c (placed g at) (stands g at) in
-    let n = c.note-head-heads.ensures.indexed _ c.loop-c.invariant.0 c.loop-c.invariant.1 in (
-      subst (Indexed c.note-head-heads.new.index) (sym e) n.0,
+    let n = c.note_head-heads.ensures.indexed _ c.loop-c.invariant.0 c.loop-c.invariant.1 in (
+      subst (Indexed c.note_head-heads.new.index) (sym e) n.0,
       n.1 ∙ ap length (sym e),
-      omega (arith, c.note-head-heads.ensures.bound),
-      first_more p (stated xs) c.loop-c.place c.in-Some.c (placed g at) (ap p (stands g at) ∙ sym c.if-not-is-good.ensures) c.loop-c.invariant.3,
+      omega (arith, c.note_head-heads.ensures.bound),
+      first_more p (stated xs) c.loop-c.place c.in-Some.c (placed g at) (ap p (stands g at) ∙ sym c.if-not-is_good.ensures) c.loop-c.invariant.3,
     )
 
 pub returns : goal.returns
 returns g c =
     let xs = g.R.Source.shows c.args.source.now in
     let p = bad g.S.Scale.meaning (length (entities c.args.register.now)) (length (role_names c.args.register.now)) in
-    let past = shown_past xs c.loop-c.place c.in-default.ensures in
+    let past = shown_past xs c.loop-c.place c.in_default.ensures in
     let end : length (stated xs) ≤ c.loop-c.place = omega (arith, past, length_stated xs) in
     let e = take_all c.loop-c.place (stated xs) end in
     let none = first_none p (stated xs) c.loop-c.place end c.loop-c.invariant.3 in (

@@ -7,5 +7,5 @@ use Rattle.reader.proofs.grammar.parse.Goals as goal
 
 pub returns : goal.returns
 returns c =
-    let value : at_byte told_command c.command-alone.result ≡ command_line c.args.line.now c.args.ended = search rules in
+    let value : at_byte told_command c.command_alone.result ≡ command_line c.args.line.now c.args.ended = search rules in
     record { value = value; place = ap fault_of value ∙ command_place c.args.line.now c.args.ended }

@@ -7,5 +7,5 @@ use Rattle.reader.proofs.grammar.parse_header.Goals as goal
 
 pub returns : goal.returns
 returns c =
-    let value : at_byte (λ x. x) c.header-alone.result ≡ first_line c.args.line.now c.args.ended = search rules in
+    let value : at_byte (λ x. x) c.header_alone.result ≡ first_line c.args.line.now c.args.ended = search rules in
     record { value = value; place = ap fault_of value ∙ header_place c.args.line.now c.args.ended }

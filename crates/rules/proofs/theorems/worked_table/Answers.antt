@@ -3,7 +3,7 @@ use Rattle.rules.proofs.theorems.worked_table.Goals as goal
 
 pub returns : goal.returns
 returns c = record {
-  sums = c.worked-sums.ensures;
+  sums = c.worked_sums.ensures;
   lone_circle = (refl, refl);
   ring_settles = (refl, refl);
   ring_before = refl;

@@ -8,12 +8,12 @@ use Rattle.ruling.specs.Rulings.{ruling_by}
 use Rattle.ruling.proofs.Ruled.{ruled}
 use Rattle.ruling.proofs.asking.decide_on.Goals as goal
 
-pub returns-in-err-verdict : goal.returns-in-err-verdict
-returns-in-err-verdict g c =
-    let told : c.from-residual.result ≡ ruling_by g.S.ToldScale.tells c.decide-with-book.result = search rules in
-    ruled g.S.Scale.meaning g.S.ToldScale.tells (plain c.args.register.now c.args.book.now) (presented c.args.slip.now) c.args.asked _ _ c.decide-with-book.result c.from-residual.result (c.requires.former, c.requires.latest, refl, refl) c.decide-with-book.ensures.decided told
+pub returns-in_err-verdict : goal.returns-in_err-verdict
+returns-in_err-verdict g c =
+    let told : c.from-residual.result ≡ ruling_by g.S.ToldScale.tells c.decide_with_book.result = search rules in
+    ruled g.S.Scale.meaning g.S.ToldScale.tells (plain c.args.register.now c.args.book.now) (presented c.args.slip.now) c.args.asked _ _ c.decide_with_book.result c.from-residual.result (c.requires.former, c.requires.latest, refl, refl) c.decide_with_book.ensures.decided told
 
 pub returns : goal.returns
 returns g c =
-    ruled g.S.Scale.meaning g.S.ToldScale.tells (plain c.args.register.now c.args.book.now) (presented c.args.slip.now) c.args.asked _ _ c.decide-with-book.result (Ok c.told.result) (c.requires.former, c.requires.latest, refl, refl) c.decide-with-book.ensures.decided
-    (ap Ok c.told.ensures ∙ ap (ruling_by g.S.ToldScale.tells) (sym c.in-ok-verdict.was))
+    ruled g.S.Scale.meaning g.S.ToldScale.tells (plain c.args.register.now c.args.book.now) (presented c.args.slip.now) c.args.asked _ _ c.decide_with_book.result (Ok c.told.result) (c.requires.former, c.requires.latest, refl, refl) c.decide_with_book.ensures.decided
+    (ap Ok c.told.ensures ∙ ap (ruling_by g.S.ToldScale.tells) (sym c.in_ok-verdict.was))

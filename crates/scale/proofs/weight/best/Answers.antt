@@ -8,7 +8,7 @@ pub loop-x-preserved : goal.loop-x-preserved
 loop-x-preserved g c =
     let m = g.S.Scale.meaning in
     let x = c.x-item.result in
-    let taken : c.better-of-top.result ≡ better_of m c.loop-x.top x = c.better-of-top.ensures in
+    let taken : c.better_of-top.result ≡ better_of m c.loop-x.top x = c.better_of-top.ensures in
     (omega arith, taken ∙ ap (λ w. better_of m w x) c.loop-x.invariant.1 ∙ best_next g.S.Scale.laws c.args.list.now c.loop-x.x-index x c.loop-x-test.true (search rules))
 
 pub returns : goal.returns

@@ -5,7 +5,7 @@ use Rattle.session.specs.Transcript.{printed}
 use Rattle.session.specs.Turns.{left_lines}
 use Rattle.session.proofs.Runs.{whole_lines, good_run, bad_run}
 use Rattle.session.proofs.running.transcript.Goals as goal
-use Rattle.session.proofs.running.transcript.Goals.{in-Ok+in-ok-answer-all, in-Err+in-ok-print-fault}
+use Rattle.session.proofs.running.transcript.Goals.{in-Ok+in_ok-answer_all, in-Err+in_ok-print_fault}
 
 pub returns : goal.returns
 returns c =
@@ -13,11 +13,11 @@ returns c =
     let short = c.if-input-gt-MOST-BYTES.false in
     let start = string_bytes c.new-out.result in
     let ls = left_lines c.split-lines.result in
-    let rest = left_lines c.check-header.new.lines in
+    let rest = left_lines c.check_header.new.lines in
     let same = whole_lines input _ _ _ c.whole.ensures.value c.split-lines.ensures.value in
-    elim c.match-check-header.branch [
-      | in-Ok+in-ok-answer-all w ↦ ap string_bytes w.out-is
-          ∙ good_run input short ls same (sym w.in-Ok.ensures.value) (state c.in-ok-session.session) (state w.answer-all.new.self) rest start (string_bytes w.answer-all.new.out) c.in-ok-session.ensures c.check-header.ensures.rest c.new-out.ensures.bytes w.in-ok-answer-all.ensures
-      | in-Err+in-ok-print-fault w ↦ ap string_bytes w.out-is
-          ∙ bad_run input short ls same w.in-Err.fault.byte (sym w.in-Err.ensures.value) start (string_bytes w.print-fault.new.out) c.new-out.ensures.bytes (w.in-ok-print-fault.ensures ∙ ap (λ f. start ++ printed (fault_said f)) w.into.ensures)
+    elim c.match-check_header.branch [
+      | in-Ok+in_ok-answer_all w ↦ ap string_bytes w.out-is
+          ∙ good_run input short ls same (sym w.in-Ok.ensures.value) (state c.in_ok-session.session) (state w.answer_all.new.self) rest start (string_bytes w.answer_all.new.out) c.in_ok-session.ensures c.check_header.ensures.rest c.new-out.ensures.bytes w.in_ok-answer_all.ensures
+      | in-Err+in_ok-print_fault w ↦ ap string_bytes w.out-is
+          ∙ bad_run input short ls same w.in-Err.fault.byte (sym w.in-Err.ensures.value) start (string_bytes w.print_fault.new.out) c.new-out.ensures.bytes (w.in_ok-print_fault.ensures ∙ ap (λ f. start ++ printed (fault_said f)) w.into.ensures)
     ]

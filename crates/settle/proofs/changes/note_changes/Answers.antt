@@ -11,8 +11,8 @@ row g c = rows_within c.args.count c.args.rows (length c.args.former.now) c.requ
 pub overflow-mul-head : goal.overflow-mul-head
 overflow-mul-head g c = omega (arith, row g c)
 
-pub row-changed-moved-requires : goal.row-changed-moved-requires
-row-changed-moved-requires g c = record { room = row g c; level = c.requires.level }
+pub row_changed-moved-requires : goal.row_changed-moved-requires
+row_changed-moved-requires g c = record { room = row g c; level = c.requires.level }
 
 or_then : (x a v : Bool) → x ≡ a → a ≡ true → x ≡ (a || v)
 or_then x a v e h = e ∙ h ∙ sym (ap (λ (b : Bool). b || v) h)
@@ -22,12 +22,12 @@ or_else x a v e h = e ∙ sym (ap (λ (b : Bool). b || v) h)
 
 pub loop-head-preserved : goal.loop-head-preserved
 loop-head-preserved g c =
-    let v : Bool = c.row-changed-moved.result in
+    let v : Bool = c.row_changed-moved.result in
     let is : c.if-any.any ≡ (c.loop-head.any || v) = elim c.if-any.branch [
       | then-any w ↦ or_then c.if-any.any c.loop-head.any v w.any-is w.if-any.true
       | else-any w ↦ or_else c.if-any.any c.loop-head.any v w.any-is w.if-any.false
     ] in
-    rw is (note_more g.S.Scale.meaning c.args.count c.loop-head.head c.args.former.now c.args.latest.now c.loop-head.changed c.loop-head.any v (omega arith) c.loop-head.invariant c.row-changed-moved.ensures)
+    rw is (note_more g.S.Scale.meaning c.args.count c.loop-head.head c.args.former.now c.args.latest.now c.loop-head.changed c.loop-head.any v (omega arith) c.loop-head.invariant c.row_changed-moved.ensures)
 
 pub returns : goal.returns
 returns g c = let e : c.loop-head.head ≡ c.args.rows = omega arith in rw e at c.loop-head.invariant

@@ -5,8 +5,8 @@ use Rattle.settle.specs.Moves.{worth}
 use Rattle.settle.proofs.Rows.{row_held}
 use Rattle.settle.proofs.offers.offer_credential.Goals as goal
 
-pub offer-body-requires : goal.offer-body-requires
-offer-body-requires g c =
+pub offer_body-requires : goal.offer_body-requires
+offer_body-requires g c =
     let row = row_held c.args.index.now c.args.count (length c.args.former.now) c.requires.rooms c.requires.few c.args.c.head c.requires.known.head c.in-Some.to c.in-Some.ensures in
     record {
       rooms = c.requires.rooms;
@@ -21,4 +21,4 @@ returns-in-Some g c rs ix =
     let head = c.args.c.head in
     let m = g.S.Scale.meaning in
     let is = c.in-Some.ensures ∙ ix.right head (omega (arith, c.requires.known.head.entity)) c.requires.known.head.name in
-    subst (λ (h : Option ℕ). RowOf h c.args.count (λ x. offered m (shown rs c.args.count c.args.former.now) (filter (worth c.args.fresh rs c.args.changed.now) (ways_by m c.args.count c.args.place c.args.c.body x))) (entry_at c.args.latest.now c.args.reasons.now) (entry_at c.offer-body.new.latest c.offer-body.new.reasons)) is (c.offer-body.ensures rs ix)
+    subst (λ (h : Option ℕ). RowOf h c.args.count (λ x. offered m (shown rs c.args.count c.args.former.now) (filter (worth c.args.fresh rs c.args.changed.now) (ways_by m c.args.count c.args.place c.args.c.body x))) (entry_at c.args.latest.now c.args.reasons.now) (entry_at c.offer_body.new.latest c.offer_body.new.reasons)) is (c.offer_body.ensures rs ix)

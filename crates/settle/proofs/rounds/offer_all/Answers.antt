@@ -19,10 +19,10 @@ within g c = shown_within (g.R.Source.shows c.args.source.now) c.loop-c.place c.
 pub overflow-cast-place : goal.overflow-cast-place
 overflow-cast-place g c = omega (arith, within g (goal.at.overflow-cast-place g c).In-Some, g.R.Source.short c.args.source.now)
 
-pub offer-credential-requires : goal.offer-credential-requires
-offer-credential-requires g c =
+pub offer_credential-requires : goal.offer_credential-requires
+offer_credential-requires g c =
     let xs = g.R.Source.shows c.args.source.now in
-    let h = within g (goal.at.offer-credential-requires g c).In-Some in
+    let h = within g (goal.at.offer_credential-requires g c).In-Some in
     record {
       rooms = c.requires.rooms;
       few = c.requires.few;
@@ -43,15 +43,15 @@ loop-c-preserved g c =
     let cs = stated xs in
     let h = within g (goal.at.loop-c-preserved g c).In-Some in
     spread_more g.S.Scale.meaning g.S.Scale.laws c.args.count (heads cs) (shown (heads cs) c.args.count c.args.former.now) (worth c.args.fresh (heads cs) c.args.changed.now) cs c.loop-c.place
-    (entry_at c.args.latest.now c.args.reasons.now) (entry_at c.loop-c.latest c.loop-c.reasons) (entry_at c.offer-credential.new.latest c.offer-credential.new.reasons)
+    (entry_at c.args.latest.now c.args.reasons.now) (entry_at c.loop-c.latest c.loop-c.reasons) (entry_at c.offer_credential.new.latest c.offer_credential.new.reasons)
     c.in-Some.c (omega (arith, h, length_stated xs)) (shown_at xs c.loop-c.place c.in-Some.c c.in-Some.ensures)
-    c.loop-c.invariant (c.offer-credential.ensures (heads cs) c.requires.indexed)
+    c.loop-c.invariant (c.offer_credential.ensures (heads cs) c.requires.indexed)
 
 pub returns : goal.returns
 returns g c =
     let m = g.S.Scale.meaning in
     let xs = g.R.Source.shows c.args.source.now in
     let cs = stated xs in
-    let past = shown_past xs c.loop-c.place c.in-default.ensures in
+    let past = shown_past xs c.loop-c.place c.in_default.ensures in
     subst (λ (ds : List Credential). Spread (heads cs) c.args.count (λ q. offered m (shown (heads cs) c.args.count c.args.former.now) (filter (worth c.args.fresh (heads cs) c.args.changed.now) (ways_from m c.args.count 0 ds q))) (entry_at c.args.latest.now c.args.reasons.now) (entry_at c.loop-c.latest c.loop-c.reasons))
     (take_all c.loop-c.place cs (omega (arith, past, length_stated xs))) c.loop-c.invariant

@@ -3,8 +3,8 @@ use Rattle.std.proofs.lemmas.List.{length-replicate, get_or-replicate}
 use Rattle.walk.proofs.Grants.{granted}
 use Rattle.walk.proofs.grant.write_grant.Goals as goal
 
-pub put-in-order-count-requires : goal.put-in-order-count-requires
-put-in-order-count-requires g c =
+pub put_in_order-count-requires : goal.put_in_order-count-requires
+put_in_order-count-requires g c =
     let n = g.G.Reasons.cells c.args.reasons.now in
     record {
       ready = c.requires.ready;
@@ -19,9 +19,9 @@ put-in-order-count-requires g c =
 
 pub returns : goal.returns
 returns g c =
-    let all : length c.put-in-order-count.new.order ≡ 32768 = c.put-in-order-count.auto.order ∙ length-replicate {A = ℕ} 32768 0 in
-    let o = c.put-in-order-count.ensures in
+    let all : length c.put_in_order-count.new.order ≡ 32768 = c.put_in_order-count.auto.order ∙ length-replicate {A = ℕ} 32768 0 in
+    let o = c.put_in_order-count.ensures in
     record {
-      granted = granted (g.G.Reasons.leads c.args.reasons.now) (g.G.Reasons.cells c.args.reasons.now) c.args.goal o (omega (arith, all, c.requires.small, o.few)) c.args.steps.now c.write-steps.new.steps c.write-steps.ensures;
+      granted = granted (g.G.Reasons.leads c.args.reasons.now) (g.G.Reasons.cells c.args.reasons.now) c.args.goal o (omega (arith, all, c.requires.small, o.few)) c.args.steps.now c.write_steps.new.steps c.write_steps.ensures;
       few = o.few;
     }

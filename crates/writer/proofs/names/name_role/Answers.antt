@@ -2,11 +2,11 @@ use Rattle.std.proofs.Common.{rules}
 use Rattle.std.proofs.lemmas.Option.{slice_get-get_or, slice_get_past}
 use Rattle.writer.proofs.names.name_role.Goals as goal
 
-pub returns-in-err-entity : goal.returns-in-err-entity
-returns-in-err-entity c = search (rules, slice_get-get_or)
+pub returns-in_err-entity : goal.returns-in_err-entity
+returns-in_err-entity c = search (rules, slice_get-get_or)
 
-pub returns-in-err-name : goal.returns-in-err-name
-returns-in-err-name c = search (rules, slice_get-get_or)
+pub returns-in_err-name : goal.returns-in_err-name
+returns-in_err-name c = search (rules, slice_get-get_or)
 
 pub returns : goal.returns
 returns c = search (rules, slice_get-get_or, slice_get_past)

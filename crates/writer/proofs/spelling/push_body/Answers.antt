@@ -17,19 +17,19 @@ pub returns-in-Member : goal.returns-in-Member
 returns-in-Member c =
     let f : SFits w32 c.in-Member.weight.ceiling = search rules in
     let g : SFits w32 c.in-Member.weight.distance = search rules in
-    let first = same c.push-integer.ensures.adds (ap signed_decimal (to_z-of_z w32 c.in-Member.weight.ceiling f)) in
-    let last = same c.push-integer-in-Member.ensures.adds (ap signed_decimal (to_z-of_z w32 c.in-Member.weight.distance g)) in
-    same (onto (onto (onto (onto (onto (onto (none refl) last) c.push-in-Member.ensures.adds) first) c.push-all-in-Member.ensures.adds) c.push-all.ensures.adds) c.push.ensures.adds) (ap words (sym c.in-Member.is))
+    let first = same c.push_integer.ensures.adds (ap signed_decimal (to_z-of_z w32 c.in-Member.weight.ceiling f)) in
+    let last = same c.push_integer-in-Member.ensures.adds (ap signed_decimal (to_z-of_z w32 c.in-Member.weight.distance g)) in
+    same (onto (onto (onto (onto (onto (onto (none refl) last) c.push-in-Member.ensures.adds) first) c.push_all-in-Member.ensures.adds) c.push_all.ensures.adds) c.push.ensures.adds) (ap words (sym c.in-Member.is))
 
 pub returns-in-Delegation : goal.returns-in-Delegation
 returns-in-Delegation c =
-    same (onto (onto (none refl) c.push-role.ensures.adds) c.push.ensures.adds) (ap words (sym c.in-Delegation.is))
+    same (onto (onto (none refl) c.push_role.ensures.adds) c.push.ensures.adds) (ap words (sym c.in-Delegation.is))
 
 pub returns-in-Link : goal.returns-in-Link
 returns-in-Link c =
     let regroup : 32 ∷ (role_word (role_by (λ x. x.now) c.in-Link.b) ++ (46 ∷ (c.in-Link.t.now ++ []))) ≡ words (Link c.in-Link.b c.in-Link.t) = simp append_assoc in
-    same (onto (onto (onto (onto (none refl) c.push-all-in-Link.ensures.adds) c.push-in-Link.ensures.adds) c.push-role-in-Link.ensures.adds) c.push.ensures.adds) (regroup ∙ ap words (sym c.in-Link.is))
+    same (onto (onto (onto (onto (none refl) c.push_all-in-Link.ensures.adds) c.push-in-Link.ensures.adds) c.push_role-in-Link.ensures.adds) c.push.ensures.adds) (regroup ∙ ap words (sym c.in-Link.is))
 
 pub returns-in-Intersection : goal.returns-in-Intersection
 returns-in-Intersection c =
-    same (onto (onto (onto (onto (none refl) c.push-role-in-Intersection-2.ensures.adds) c.push-all-in-Intersection.ensures.adds) c.push-role-in-Intersection.ensures.adds) c.push.ensures.adds) (ap words (sym c.in-Intersection.is))
+    same (onto (onto (onto (onto (none refl) c.push_role-in-Intersection-2.ensures.adds) c.push_all-in-Intersection.ensures.adds) c.push_role-in-Intersection.ensures.adds) c.push.ensures.adds) (ap words (sym c.in-Intersection.is))

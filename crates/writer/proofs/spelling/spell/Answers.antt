@@ -6,5 +6,5 @@ use Rattle.writer.proofs.spelling.spell.Goals as goal
 
 pub returns : goal.returns
 returns c =
-    (onto (onto c.push-body.ensures c.push-all.ensures.adds) c.push-role.ensures.adds).bytes
+    (onto (onto c.push_body.ensures c.push_all.ensures.adds) c.push_role.ensures.adds).bytes
     ∙ ap (λ l. l ++ spelled (sentence_by (λ x. x.now) c.args.sentence)) c.new-draft.ensures.bytes

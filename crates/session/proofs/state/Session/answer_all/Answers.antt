@@ -14,6 +14,6 @@ loop-line-preserved c =
     let q = state c.answer.new.self in
     let out = string_bytes c.loop-line.out in
     let new = string_bytes c.answer.new.out in
-    let h = subst (λ b. Answered p (part_line w.text (not b)) out q new) c.is-empty-ended.ensures c.in-ok-answer.ensures in
+    let h = subst (λ b. Answered p (part_line w.text (not b)) out q new) c.is_empty-ended.ensures c.in_ok-answer.ensures in
     let is = c.in-Some.ensures.0 in
     (turn_prints p q out new w left _ is h ∙ c.loop-line.invariant.0, turn_changes p q out new w left _ is h ∙ c.loop-line.invariant.1)

@@ -7,7 +7,7 @@ use Rattle.session.proofs.state.Session.list.Goals as goal
 
 pub loop-credential-preserved : goal.loop-credential-preserved
 loop-credential-preserved c = λ h.
-    one_more (state c.args.self.now).book c.credentials-credentials.result.now c.loop-credential.credential-index _ c.loop-credential-test.true h _ _ c.in-ok-list-one.ensures
+    one_more (state c.args.self.now).book c.credentials-credentials.result.now c.loop-credential.credential-index _ c.loop-credential-test.true h _ _ c.in_ok-list_one.ensures
     ∙ c.loop-credential.invariant h
 
 pub returns : goal.returns

@@ -6,4 +6,4 @@ use Rattle.source.proofs.layers.BookSource.credential.Goals as goal
 
 pub returns : goal.returns
 returns c =
-    c.credential-in.ensures ∙ ap (λ l. slice_get l c.args.place) c.credentials.ensures ∙ layer_credential 1 0 (listed c.args.self.now) c.args.place
+    c.credential_in.ensures ∙ ap (λ l. slice_get l c.args.place) c.credentials.ensures ∙ layer_credential 1 0 (listed c.args.self.now) c.args.place

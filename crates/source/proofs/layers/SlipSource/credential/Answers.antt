@@ -6,4 +6,4 @@ use Rattle.source.proofs.layers.SlipSource.credential.Goals as goal
 
 pub returns : goal.returns
 returns c =
-    c.credential-in.ensures ∙ ap (λ l. slice_get l c.args.place) c.credentials.ensures ∙ layer_credential 2 0 (presented c.args.self.now) c.args.place
+    c.credential_in.ensures ∙ ap (λ l. slice_get l c.args.place) c.credentials.ensures ∙ layer_credential 2 0 (presented c.args.self.now) c.args.place

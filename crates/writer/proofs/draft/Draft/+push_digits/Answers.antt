@@ -13,8 +13,8 @@ before t c =
     elim c.if-n-ge10.branch [
       | then-n-ge10 w ↦ record {
         front = decimal (n / 10);
-        adds = record { bytes = ap held w.self-is ∙ w.push-digits.ensures.adds.bytes };
-        len = ap (λ d. d.len) w.self-is ∙ w.push-digits.ensures.len;
+        adds = record { bytes = ap held w.self-is ∙ w.push_digits.ensures.adds.bytes };
+        len = ap (λ d. d.len) w.self-is ∙ w.push_digits.ensures.len;
         whole = sym (decimal_step n w.if-n-ge10.true fits);
       }
       | else-n-ge10 w ↦ record {
@@ -25,8 +25,8 @@ before t c =
       }
     ]
 
-pub push-digits-requires : goal.push-digits-requires
-push-digits-requires t c =
+pub push_digits-requires : goal.push_digits-requires
+push_digits-requires t c =
     omega (arith, simp length-append at (ap length (decimal_step c.args.n c.if-n-ge10.true (omega (arith, c.ranges.n.fits)))))
 
 pub push-requires : goal.push-requires

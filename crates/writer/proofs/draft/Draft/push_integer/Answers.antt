@@ -7,7 +7,7 @@ use Rattle.std.proofs.lemmas.Bool.{true≢false, ltb-true}
 use Rattle.writer.specs.Drafts.{held}
 use Rattle.writer.proofs.Chain.{none, Begun, finished, lengths}
 use Rattle.writer.proofs.draft.Draft.push_integer.Goals as goal
-use Rattle.writer.proofs.draft.Draft.push_integer.Goals.{then-n-lt0, else-n-lt0, After-unsigned-abs}
+use Rattle.writer.proofs.draft.Draft.push_integer.Goals.{then-n-lt0, else-n-lt0, After-unsigned_abs}
 
 signed_below : (z : ℤ) → lt_z z (pos 0) ≡ true → signed_decimal z ≡ 45 ∷ decimal (nat_abs z)
 signed_below (pos n) h = absurd (omega (arith, ltb-true n 0 h))
@@ -17,10 +17,10 @@ signed_above : (z : ℤ) → lt_z z (pos 0) ≡ false → signed_decimal z ≡ d
 signed_above (pos n) h = refl
 signed_above (negsuc n) h = absurd (true≢false h)
 
-before : (c : After-unsigned-abs) → Begun c.args.self.now c.if-n-lt0.self (decimal c.unsigned-abs.result) (signed_decimal c.args.n)
+before : (c : After-unsigned_abs) → Begun c.args.self.now c.if-n-lt0.self (decimal c.unsigned_abs.result) (signed_decimal c.args.n)
 before c =
     let back = ap signed_decimal (to_z-of_z w32 c.args.n c.ranges.n) in
-    let digits = ap decimal c.unsigned-abs.ensures.value in
+    let digits = ap decimal c.unsigned_abs.ensures.value in
     elim c.if-n-lt0.branch [
       | then-n-lt0 w ↦ record {
         front = 45 ∷ [];
@@ -36,19 +36,19 @@ before c =
       }
     ]
 
-short : (c : After-unsigned-abs) → length (signed_decimal c.args.n) ≤ 11
+short : (c : After-unsigned_abs) → length (signed_decimal c.args.n) ≤ 11
 short c = length_signed_le 10 c.args.n (omega (arith, c.ranges.n.sfits)) (omega (arith, c.ranges.n.sfits))
 
-pub push-digits-requires : goal.push-digits-requires
-push-digits-requires c =
-    let at = (goal.at.push-digits-requires c).After-unsigned-abs in
+pub push_digits-requires : goal.push_digits-requires
+push_digits-requires c =
+    let at = (goal.at.push_digits-requires c).After-unsigned_abs in
     omega (arith, (before at).len, lengths (before at), short at)
 
 pub returns : goal.returns
 returns c =
-    let at = (goal.at.returns c).After-unsigned-abs in
+    let at = (goal.at.returns c).After-unsigned_abs in
     let b = before at in
     record {
-      adds = finished b c.push-digits.ensures.adds;
-      len = omega (arith, c.push-digits.ensures.len, b.len, lengths b, short at);
+      adds = finished b c.push_digits.ensures.adds;
+      len = omega (arith, c.push_digits.ensures.len, b.len, lengths b, short at);
     }
