@@ -21,17 +21,17 @@ AllBelow E R (c ∷ cs) = (claim_enrolled E R c ≡ true) × AllBelow E R cs
 abbrev pub AllEnrolled : Plain → Type 0
 AllEnrolled p = AllBelow (length p.entities) (length p.role_names) p.credentials
 
-module _ (E R E' R' : ℕ) (more-entities : E ≤ E') (more-names : R ≤ R') where
+module _ (E R E' R' : ℕ) (more_entities : E ≤ E') (more_names : R ≤ R') where
   below : (n a b : ℕ) → a ≤ b → ltb n a ≡ true → ltb n b ≡ true
   below n a b le h = lt-ltb n b (omega (arith, ltb-true n a h))
 
   role_below : (r : Role) → role_enrolled E R r ≡ true → role_enrolled E' R' r ≡ true
-  role_below r h = let k = and_parts _ _ h in and_from _ _ (below r.entity.0 E E' more-entities k.0) (below r.name.0 R R' more-names k.1)
+  role_below r h = let k = and_parts _ _ h in and_from _ _ (below r.entity.0 E E' more_entities k.0) (below r.name.0 R R' more_names k.1)
 
   body_below : (b : Body Record) → body_enrolled E R b ≡ true → body_enrolled E' R' b ≡ true
-  body_below (Member x w) h = below x.0 E E' more-entities h
+  body_below (Member x w) h = below x.0 E E' more_entities h
   body_below (Delegation b) h = role_below b h
-  body_below (Link b t) h = let k = and_parts _ _ h in and_from _ _ (role_below b k.0) (below t.0 R R' more-names k.1)
+  body_below (Link b t) h = let k = and_parts _ _ h in and_from _ _ (role_below b k.0) (below t.0 R R' more_names k.1)
   body_below (Intersection b c) h = let k = and_parts _ _ h in and_from _ _ (role_below b k.0) (role_below c k.1)
 
   -- names are only ever added

@@ -37,8 +37,8 @@ members_enrolled E (d ∷ cs) known (suc p) c e = members_enrolled E cs known.1 
 
 module _ {S : Type 0} (M : Meaning S) (laws : Laws M) (E : ℕ) (cs : List Credential) (known : AllIn E cs) (goal : Membership) where
   -- what the list has for the goal is its settled weight
-  pub goal-weight : (index : List ℕ) → Indexed index (heads cs) → E ≤ 64 → RoleIn E goal.role → goal.member.0 < E → (n : ℕ) (ws : List (Option S)) → ws ≡ weights_after M E cs n → weight_at ws E (head_at index goal.role) goal.member.0 ≡ table M E cs n goal
-  goal-weight index ix few role member n ws is =
+  pub goal_weight : (index : List ℕ) → Indexed index (heads cs) → E ≤ 64 → RoleIn E goal.role → goal.member.0 < E → (n : ℕ) (ws : List (Option S)) → ws ≡ weights_after M E cs n → weight_at ws E (head_at index goal.role) goal.member.0 ≡ table M E cs n goal
+  goal_weight index ix few role member n ws is =
       ap (λ (vs : List (Option S)). weight_at vs E (head_at index goal.role) goal.member.0) is
       ∙ read_at M laws index (heads cs) ix E few (weights_after M E cs n) goal.role role goal.member.0 member
       ∙ ap (λ (t : Membership → Option S). t goal) (shown_table M laws E cs known n)

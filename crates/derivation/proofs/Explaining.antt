@@ -22,22 +22,22 @@ use Rattle.derivation.proofs.Trails as trails
 use Rattle.derivation.proofs.Listings as listings
 use Rattle.derivation.proofs.Follows.{grant_derives}
 
-module _ {S : Type 0} {M : Meaning S} {E : ℕ} {cs : List Credential} {index : List ℕ} {many : ℕ} {reasons : List Reason} {goal : Membership} {n : ℕ} (laws : Laws M) (chooses : Chooses M) (few : E ≤ 64) (known : AllIn E cs) (short : length cs ≤ 512) (indexed : Indexed index (heads cs)) (heads-are : many ≡ length (heads cs)) (r : Reasoned M E cs reasons goal n) where
-  pub goal-member : goal.member.0 < E
-  goal-member = enrolled M laws chooses E cs known n goal r.settled
+module _ {S : Type 0} {M : Meaning S} {E : ℕ} {cs : List Credential} {index : List ℕ} {many : ℕ} {reasons : List Reason} {goal : Membership} {n : ℕ} (laws : Laws M) (chooses : Chooses M) (few : E ≤ 64) (known : AllIn E cs) (short : length cs ≤ 512) (indexed : Indexed index (heads cs)) (heads_are : many ≡ length (heads cs)) (r : Reasoned M E cs reasons goal n) where
+  pub goal_member : goal.member.0 < E
+  goal_member = enrolled M laws chooses E cs known n goal r.settled
 
-  pub goal-role : RoleIn 64 goal.role
-  goal-role = role_in E few goal.role (role_known M laws chooses E cs n known goal r.settled)
+  pub goal_role : RoleIn 64 goal.role
+  goal_role = role_in E few goal.role (role_known M laws chooses E cs n known goal r.settled)
 
   pub ready : Ready cs index E many reasons
-  ready = trails.ready-from M laws chooses E cs index many reasons n r.are (omega (arith, goal-member)) few known short indexed heads-are
+  ready = trails.ready_from M laws chooses E cs index many reasons n r.are (omega (arith, goal_member)) few known short indexed heads_are
 
   pub acyclic : Acyclic (step_at cs index E reasons) (many * E)
   acyclic = trails.acyclic M laws chooses E cs index many reasons n r.are ready
 
   -- the goal has a cell
   pub goal_cell : None ≡ cell_of index E goal → ⊥
-  goal_cell e = none_some (e ∙ (trails.settled-cell M laws chooses E cs index many reasons n r.are ready goal r.settled).1)
+  goal_cell e = none_some (e ∙ (trails.settled_cell M laws chooses E cs index many reasons n r.are ready goal r.settled).1)
 
   module _ (cell : ℕ) (found : Some cell ≡ cell_of index E goal) where
     pub cell_inside : cell < many * E

@@ -55,9 +55,9 @@ module _ (E : ℕ) (cs : List Credential) (index : List ℕ) (known : AllIn E cs
       by : (o : Option ℕ) → number (heads cs) q.role ≡ o → option_map (in_row q.member.0) o ≡ Some p → (at E cs p ≡ q) × (p < length (heads cs) * E)
       by None n e = absurd (none_some e)
       by (Some h) n e =
-          let k = cells.cell-of E (heads cs) q.role h q.member.0 n inside in
+          let k = cells.cell_of E (heads cs) q.role h q.member.0 n inside in
           let there : h * E + q.member.0 ≡ p = some_is e in
-          (ap (at E cs) (sym there) ∙ k.1 nowhere, omega (arith, there, k.0, cells.length-cells E (heads cs)))
+          (ap (at E cs) (sym there) ∙ k.1 nowhere, omega (arith, there, k.0, cells.length_cells E (heads cs)))
 
   pub has_cell : (q : Membership) → RoleIn 64 q.role → (number (heads cs) q.role ≡ None → ⊥) → (p : ℕ) × (cell_of index E q ≡ Some p)
   has_cell q role h = by (number (heads cs) q.role) refl
@@ -68,10 +68,10 @@ module _ (E : ℕ) (cs : List Credential) (index : List ℕ) (known : AllIn E cs
 
   module _ (c : ℕ) (l : c < length (heads cs) * E) where
     spot : cells.Cell E (heads cs) c
-    spot = cells.cell-from E (heads cs) (heads_unrepeated cs) c (omega (arith, cells.length-cells E (heads cs)))
+    spot = cells.cell_from E (heads cs) (heads_unrepeated cs) c (omega (arith, cells.length_cells E (heads cs)))
 
     spot_is : at E cs c ≡ belongs spot.role spot.member
-    spot_is = ap (at E cs) spot.is ∙ (cells.cell-of E (heads cs) spot.role spot.head spot.member spot.numbered spot.within).1 nowhere
+    spot_is = ap (at E cs) spot.is ∙ (cells.cell_of E (heads cs) spot.role spot.head spot.member spot.numbered spot.within).1 nowhere
 
     pub cell_back : cell_of index E (at E cs c) ≡ Some c
     cell_back =
@@ -84,5 +84,5 @@ module _ (E : ℕ) (cs : List Credential) (index : List ℕ) (known : AllIn E cs
 -- a cell that an index gives is below 32,768
 pub cell_fits : {index : List ℕ} {E : ℕ} → Fits index E → (r : Role) → RoleIn 64 r → (x h : ℕ) → x < E → Some h ≡ head_at index r → h * E + x < 32768
 cell_fits {index} {E} f r role x h inside e =
-    let k = cells.cell-of E f.roles r h x (sym (f.indexed.right r role.entity role.name) ∙ sym e) inside in
-    omega (arith, k.0, cells.length-cells E f.roles, f.few)
+    let k = cells.cell_of E f.roles r h x (sym (f.indexed.right r role.entity role.name) ∙ sym e) inside in
+    omega (arith, k.0, cells.length_cells E f.roles, f.few)

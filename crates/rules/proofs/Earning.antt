@@ -31,7 +31,7 @@ module _ {S : Type 0} (M : Meaning S) (laws : Laws M) where
 
     module _ (why : Membership → Way S) (earned : (q : Membership) → Settled M E cs n q → Earned M E cs n q (why q)) where
       above : (q p : Membership) → Leads M E cs n why q p → AtLeast M (table M E cs n p) (table M E cs n q)
-      above q p (to_premise h m) = theory.premise-above M laws (system M E cs) n q (as_earned q (why q) (earned q h)) p m
+      above q p (to_premise h m) = theory.premise_above M laws (system M E cs) n q (as_earned q (why q) (earned q h)) p m
       above q p (onward {r = r} f g) = at_least_trans M laws (table M E cs n p) (table M E cs n r) (table M E cs n q) (above r p g) (above q r f)
 
       settled_on : (q p : Membership) → Settled M E cs n q → AtLeast M (table M E cs n p) (table M E cs n q) → Settled M E cs n p
@@ -43,11 +43,11 @@ module _ {S : Type 0} (M : Meaning S) (laws : Laws M) where
 
       -- where the weight is the same, it was earned in an earlier round
       earlier : (q p : Membership) → Leads M E cs n why q p → (e : Earned M E cs n q (why q)) (f : Earned M E cs n p (why p)) → table M E cs n p ≡ table M E cs n q → f.before < e.before
-      earlier q p (to_premise h m) e f same = theory.premise-earlier M laws (system M E cs) n q (as_earned q (why q) e) p (as_earned p (why p) f) m same
+      earlier q p (to_premise h m) e f same = theory.premise_earlier M laws (system M E cs) n q (as_earned q (why q) e) p (as_earned p (why p) f) m same
       earlier q p (onward {r = r} a b) e f same =
-          let up-r = above q r a in
-          let up-p = above r p b in
-          let level : table M E cs n r ≡ table M E cs n q = at_least_antisym M laws _ _ up-r (subst (λ w. AtLeast M w (table M E cs n r)) same up-p) in
+          let up_r = above q r a in
+          let up_p = above r p b in
+          let level : table M E cs n r ≡ table M E cs n q = at_least_antisym M laws _ _ up_r (subst (λ w. AtLeast M w (table M E cs n r)) same up_p) in
           let g = earned r (starts_settled r p b) in
           let first = earlier q r a e g level in
           let second = earlier r p b g f (same ∙ sym level) in

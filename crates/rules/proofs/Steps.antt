@@ -97,9 +97,9 @@ module _ {S : Type 0} (M : Meaning S) (laws : Laws M) where
 
     -- the same of a way with two premises
     two_below : (c : Credential) (i x : ℕ) (y : Way S) (a b w : S) {p q : Membership} → slice_get cs i ≡ Some c → Memᴰ y (ways_by M E i c.body x) → candidate M y ≡ record { weight = full_weight M; premises = p ∷ q ∷ [] } → AtLeast M (t p) (Some a) → AtLeast M (t q) (Some b) → combined M (Some a) (Some b) ≡ Some w → AtLeast M (t (belongs c.head x)) (Some w)
-    two_below c i x y a b w {p} {q} at here is up-p up-q e =
+    two_below c i x y a b w {p} {q} at here is up_p up_q e =
         let gives : AtLeast M (combined M (t p) (combined M (t q) (full_weight M))) (Some w) =
-        subst (λ v. AtLeast M (combined M (t p) v) (Some w)) (sym (combine_full_right M laws (t q))) (subst (AtLeast M (combined M (t p) (t q))) e (combine_mono_both M laws (t p) (t q) (Some a) (Some b) up-p up-q)) in
+        subst (λ v. AtLeast M (combined M (t p) v) (Some w)) (sym (combine_full_right M laws (t q))) (subst (AtLeast M (combined M (t p) (t q))) e (combine_mono_both M laws (t p) (t q) (Some a) (Some b) up_p up_q)) in
         at_least_trans M laws _ _ _ (entry_above c i x y at here) (subst (λ k. AtLeast M (weighs M t k) (Some w)) (sym is) gives)
 
     one_good : (c : Credential) (i : ℕ) (s : Step) (ds : List (Concluded S)) (w : S) → slice_get cs i ≡ Some c → AllGood ds → MemberBelow E c.body → (b : Body Record) → c.body ≡ b → by_rule M ds b s ≡ Some w → (s.member.0 < E) × AtLeast M (t (belongs c.head s.member.0)) (Some w)
