@@ -22,8 +22,8 @@ fn number_of(cell: Option<u16>, number: &[u16]) -> u16
 
 // The step, its premises cited by number.
 fn numbered(step: CellStep, number: &[u16]) -> Step
-    requires in_number { InNumber number.now step.first }
-    requires in_number_2 { InNumber number.now step.second }
+    requires first { InNumber number.now step.first }
+    requires second { InNumber number.now step.second }
     ensures { result ≡ numbered number.now step }
 {
     Step {

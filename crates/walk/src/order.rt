@@ -25,8 +25,8 @@ fn opened(cell: Option<u16>, number: &[u16]) -> Option<u16>
 
 // The first premise that has no number yet.
 fn open_premise(step: CellStep, number: &[u16]) -> Option<u16>
-    requires in_number { InNumber number.now step.first }
-    requires in_number_2 { InNumber number.now step.second }
+    requires first { InNumber number.now step.first }
+    requires second { InNumber number.now step.second }
     ensures { result ≡ open_premise number.now step }
 {
     match opened(step.first, number) {

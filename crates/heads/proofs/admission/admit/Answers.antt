@@ -50,8 +50,8 @@ note_head-heads-requires g c =
       known = role_in E few c.in-Some.c.head known.head;
     }
 
-pub overflow-add-place : goal.overflow-add-place
-overflow-add-place g c = omega (arith, within g (goal.at.overflow-add-place g c).In-Some, c.requires.few)
+pub overflow_add-place : goal.overflow_add-place
+overflow_add-place g c = omega (arith, within g (goal.at.overflow_add-place g c).In-Some, c.requires.few)
 
 pub loop-c-smaller : goal.loop-c-smaller
 loop-c-smaller g c = omega (arith, within g (goal.at.loop-c-smaller g c).In-Some)

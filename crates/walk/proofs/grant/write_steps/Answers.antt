@@ -9,10 +9,10 @@ pub numbered-requires : goal.numbered-requires
 numbered-requires g c =
     let n = g.G.Reasons.cells c.args.reasons.now in
     let t = get_or c.args.order.now c.loop-k.k 0 in
-    let t_in : t < n = c.requires.inside c.loop-k.k c.loop-k-test.true in (
-      in_number c.args.number.now c.step_of.result.first n (λ p e. c.requires.acyclic.inside t p t_in (subst (λ v. Premise v p) c.step_of.ensures (inl e))) c.requires.numbers,
-      in_number c.args.number.now c.step_of.result.second n (λ p e. c.requires.acyclic.inside t p t_in (subst (λ v. Premise v p) c.step_of.ensures (inr e))) c.requires.numbers,
-    )
+    let t_in : t < n = c.requires.inside c.loop-k.k c.loop-k-test.true in record {
+      first = in_number c.args.number.now c.step_of.result.first n (λ p e. c.requires.acyclic.inside t p t_in (subst (λ v. Premise v p) c.step_of.ensures (inl e))) c.requires.numbers;
+      second = in_number c.args.number.now c.step_of.result.second n (λ p e. c.requires.acyclic.inside t p t_in (subst (λ v. Premise v p) c.step_of.ensures (inr e))) c.requires.numbers;
+    }
 
 pub loop-k-preserved : goal.loop-k-preserved
 loop-k-preserved g c =

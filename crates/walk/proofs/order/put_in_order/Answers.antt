@@ -14,10 +14,10 @@ open_premise-requires g c =
     let w = c.loop-height.invariant in
     let n = g.G.Reasons.cells c.args.reasons.now in
     let t = get_or c.loop-height.stack (c.loop-height.height - 1) 0 in
-    let t_in : t < n = w.open-in (c.loop-height.height - 1) (omega (arith, c.loop-height-test.true)) in (
-      in_number c.loop-height.number c.step_of.result.first n (λ p e. w.acyclic.inside t p t_in (subst (λ v. Premise v p) c.step_of.ensures (inl e))) w.long_number,
-      in_number c.loop-height.number c.step_of.result.second n (λ p e. w.acyclic.inside t p t_in (subst (λ v. Premise v p) c.step_of.ensures (inr e))) w.long_number,
-    )
+    let t_in : t < n = w.open_in (c.loop-height.height - 1) (omega (arith, c.loop-height-test.true)) in record {
+      first = in_number c.loop-height.number c.step_of.result.first n (λ p e. w.acyclic.inside t p t_in (subst (λ v. Premise v p) c.step_of.ensures (inl e))) w.long_number;
+      second = in_number c.loop-height.number c.step_of.result.second n (λ p e. w.acyclic.inside t p t_in (subst (λ v. Premise v p) c.step_of.ensures (inr e))) w.long_number;
+    }
 
 pub bounds-stack-height-in-Some : goal.bounds-stack-height-in-Some
 bounds-stack-height-in-Some g c =
