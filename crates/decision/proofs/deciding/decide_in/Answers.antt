@@ -24,8 +24,8 @@ fit-requires g c = index_none (replicate 2048 65535) 2048 refl refl
 cells : (g : given.Over) (c : After-entity_count-entities g) → c.in_ok-asked.heads * c.entity_count-entities.result ≡ many_cells (length (entities c.args.register.now)) (stated (g.R.Source.shows c.args.source.now))
 cells g c = ap₂ (λ a b. a * b) c.in_ok-asked.ensures.1.many_heads c.entity_count-entities.ensures.value
 
-pub overflow-mul-need : goal.overflow-mul-need
-overflow-mul-need g c =
+pub overflow_mul-need : goal.overflow_mul-need
+overflow_mul-need g c =
     let xs = g.R.Source.shows c.args.source.now in
     let f = c.in_ok-asked.ensures.1 in
     omega (arith, few_cells c.entity_count-entities.result c.in_ok-asked.heads (stated xs) c.entity_count-entities.ensures.bound (omega (arith, length_stated xs, f.few)) f.many_heads)
@@ -47,10 +47,10 @@ rule-requires g c =
       many = f.many_heads;
       role = subst (λ n. RoleIn n c.args.goal.role) is (role_in g.S.Scale.meaning E R (few_role_names c.args.register.now) c.args.goal.role goal.0);
       member = omega (arith, is, ltb-true _ _ goal.1);
-      former-long = search rules;
+      former_long = search rules;
       latest_long = search rules;
       reasons_long = search rules;
-      steps-room = room.3;
+      steps_room = room.3;
     }
 
 pub returns : goal.returns

@@ -8,7 +8,7 @@ use Rattle.heads.specs.Index.{head_at}
 use Rattle.settle.specs.Entries.{weight_at, Held}
 use Rattle.settle.proofs.Turns.{rooms}
 use Rattle.derivation.specs.Explained.{Reasoned}
-use Rattle.decision.proofs.Rulings.{goal-weight, denied, granted}
+use Rattle.decision.proofs.Rulings.{goal_weight, denied, granted}
 use Rattle.decision.proofs.ruling.rule.Given as given
 use Rattle.decision.proofs.ruling.rule.Goals as goal
 use Rattle.decision.proofs.ruling.rule.Goals.{After-weight_of-best}
@@ -28,7 +28,7 @@ found : (g : given.Over) (c : After-weight_of-best g) → c.weight_of-best.resul
 found g c =
     c.weight_of-best.ensures
     ∙ ap (λ (h : Option ℕ). weight_at c.settle-rounds.new.latest c.args.entities h c.args.goal.member.0) c.head_of-head.ensures
-    ∙ goal-weight g.S.Scale.meaning g.S.Scale.laws c.args.entities (stated (g.R.Source.shows c.args.source.now)) c.requires.known c.args.goal c.args.index.now c.requires.indexed c.requires.few c.requires.role c.requires.member c.settle-rounds.result c.settle-rounds.new.latest c.settle-rounds.ensures.latest
+    ∙ goal_weight g.S.Scale.meaning g.S.Scale.laws c.args.entities (stated (g.R.Source.shows c.args.source.now)) c.requires.known c.args.goal c.args.index.now c.requires.indexed c.requires.few c.requires.role c.requires.member c.settle-rounds.result c.settle-rounds.new.latest c.settle-rounds.ensures.latest
 
 pub returns-in_default : goal.returns-in_default
 returns-in_default g c =

@@ -2,7 +2,7 @@ use Rattle.std.proofs.Common.{length, refl}
 use Rattle.source.specs.Shows.{stated}
 use Rattle.rules.specs.Cells.{heads}
 use Rattle.heads.proofs.Fewer.{few_cells}
-use Rattle.derivation.proofs.Explaining.{goal-member, goal-role, ready, acyclic, goal_cell, cell_inside, granted, derives}
+use Rattle.derivation.proofs.Explaining.{goal_member, goal_role, ready, acyclic, goal_cell, cell_inside, granted, derives}
 use Rattle.derivation.proofs.explanation.explain.Goals as goal
 
 pub cell_of-requires : goal.cell_of-requires
@@ -11,8 +11,8 @@ cell_of-requires g c =
     let p = c.requires in
     record {
       fits = record { roles = heads cs; indexed = p.indexed; few = few_cells c.args.entities (length (heads cs)) cs p.few p.short refl };
-      role = goal-role g.S.Scale.laws g.S.Scale.chooses p.few p.known p.short p.indexed p.many p.settled.1;
-      member = goal-member g.S.Scale.laws g.S.Scale.chooses p.few p.known p.short p.indexed p.many p.settled.1;
+      role = goal_role g.S.Scale.laws g.S.Scale.chooses p.few p.known p.short p.indexed p.many p.settled.1;
+      member = goal_member g.S.Scale.laws g.S.Scale.chooses p.few p.known p.short p.indexed p.many p.settled.1;
     }
 
 pub write_grant-requires : goal.write_grant-requires

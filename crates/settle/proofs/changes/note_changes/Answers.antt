@@ -8,8 +8,8 @@ use Rattle.settle.proofs.changes.note_changes.Goals.{In-loop-head, then-any, els
 row : (g : given.Over) (c : In-loop-head g) → c.loop-head.head * c.args.count + c.args.count ≤ length c.args.former.now
 row g c = rows_within c.args.count c.args.rows (length c.args.former.now) c.requires.room c.loop-head.head c.loop-head-test.true
 
-pub overflow-mul-head : goal.overflow-mul-head
-overflow-mul-head g c = omega (arith, row g c)
+pub overflow_mul-head : goal.overflow_mul-head
+overflow_mul-head g c = omega (arith, row g c)
 
 pub row_changed-moved-requires : goal.row_changed-moved-requires
 row_changed-moved-requires g c = record { room = row g c; level = c.requires.level }

@@ -12,8 +12,8 @@ offer_body-requires g c =
       rooms = c.requires.rooms;
       few = c.requires.few;
       known = c.requires.known.body;
-      latest-room = omega (arith, row);
-      reasons-room = omega (arith, row);
+      latest_room = omega (arith, row);
+      reasons_room = omega (arith, row);
     }
 
 pub returns-in-Some : goal.returns-in-Some

@@ -10,8 +10,8 @@ use Rattle.settle.proofs.offers.offer_link.Goals.{then-either_moved, else-either
 pub offer_row-requires : goal.offer_row-requires
 offer_row-requires g c = record {
   held = rw c.head_of-second.ensures (c.requires.rooms.held (role_of c.loop-k.k c.args.name) (omega arith) (omega arith));
-  latest-room = omega arith;
-  reasons-room = omega arith;
+  latest_room = omega arith;
+  reasons_room = omega arith;
 }
 
 pub loop-k-preserved : goal.loop-k-preserved

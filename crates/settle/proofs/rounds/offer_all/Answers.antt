@@ -16,8 +16,8 @@ use Rattle.settle.proofs.rounds.offer_all.Goals.{In-Some}
 within : (g : given.Over) (c : In-Some g) → c.loop-c.place < length (g.R.Source.shows c.args.source.now)
 within g c = shown_within (g.R.Source.shows c.args.source.now) c.loop-c.place c.in-Some.c c.in-Some.ensures
 
-pub overflow-cast-place : goal.overflow-cast-place
-overflow-cast-place g c = omega (arith, within g (goal.at.overflow-cast-place g c).In-Some, g.R.Source.short c.args.source.now)
+pub overflow_cast-place : goal.overflow_cast-place
+overflow_cast-place g c = omega (arith, within g (goal.at.overflow_cast-place g c).In-Some, g.R.Source.short c.args.source.now)
 
 pub offer_credential-requires : goal.offer_credential-requires
 offer_credential-requires g c =
@@ -27,12 +27,12 @@ offer_credential-requires g c =
       rooms = c.requires.rooms;
       few = c.requires.few;
       known = subst (CredentialIn c.args.count) (shown_at xs c.loop-c.place c.in-Some.c c.in-Some.ensures) (All-get_or (CredentialIn c.args.count) (stated xs) c.loop-c.place c.in-Some.c (omega (arith, h, length_stated xs)) c.requires.known);
-      latest-level = omega arith;
-      reasons-level = omega arith;
+      latest_level = omega arith;
+      reasons_level = omega arith;
     }
 
-pub overflow-add-place : goal.overflow-add-place
-overflow-add-place g c = omega (arith, within g (goal.at.overflow-add-place g c).In-Some, g.R.Source.short c.args.source.now)
+pub overflow_add-place : goal.overflow_add-place
+overflow_add-place g c = omega (arith, within g (goal.at.overflow_add-place g c).In-Some, g.R.Source.short c.args.source.now)
 
 pub loop-c-smaller : goal.loop-c-smaller
 loop-c-smaller g c = omega (arith, within g (goal.at.loop-c-smaller g c).In-Some)

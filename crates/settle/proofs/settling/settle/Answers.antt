@@ -29,8 +29,8 @@ offer_all-requires g c =
       indexed = c.requires.indexed;
       few = c.requires.few;
       known = c.requires.known;
-      latest-level = omega arith;
-      reasons-level = omega arith;
+      latest_level = omega arith;
+      reasons_level = omega arith;
     }
 
 -- a row for each head
