@@ -8,6 +8,9 @@ use Rattle.reader.proofs.lines.read.Goals as goal
 pub returns-in_err-name : goal.returns-in_err-name
 returns-in_err-name c = record { answers = search rules; changes = search rules; uses = search rules; spelled_back = spelled_back _ _ _; read_back = read_back }
 
+pub returns-in_err-enrol-in-Enrol : goal.returns-in_err-enrol-in-Enrol
+returns-in_err-enrol-in-Enrol c = record { answers = search rules; changes = search rules; uses = search rules; spelled_back = spelled_back _ _ _; read_back = read_back }
+
 pub returns-in_ok-enrol-in-Enrol : goal.returns-in_ok-enrol-in-Enrol
 returns-in_ok-enrol-in-Enrol c = record { answers = search rules; changes = search rules; uses = search rules; spelled_back = spelled_back _ _ _; read_back = read_back }
 
