@@ -27,7 +27,8 @@ pub(crate) fn all(
         let mut input = Vec::from_slice(heap, start)?;
         input.extend_from_slice(lines)?;
         let case = std::str::from_utf8(lines).unwrap_or("not a text");
-        prints(rt, heap, input.as_slice(), expected).note(case)?;
+        let out = transcript(heap, input.as_slice())?;
+        assert_eq!(rt; out.as_str(), *expected, "{case}");
     }
     Ok(())
 }

@@ -12,6 +12,6 @@ returns c =
     let start = c.in_ok-session.ensures in
     let left = c.check_header.ensures.rest in
     let same = whole_lines input _ _ _ c.whole.ensures.value c.split-lines.ensures.value in
-    roster_run input c.if-input-gt-MOST-BYTES.false (left_lines c.split-lines.result) same (sym c.in_default.ensures.value)
+    roster_run input c.if-input-gt-MOST_BYTES.false (left_lines c.split-lines.result) same (sym c.in_default.ensures.value)
     (state c.answer_all.new.self) (c.in_ok-answer_all.ensures.changes ∙ (λ i. after (start i) (left i)))
     (vec_items c.new-out.result) (vec_items c.list.new.out) c.new-out.ensures.items c.in_ok-list.ensures
