@@ -1,6 +1,6 @@
 -- Credentials whose numbers are below bounds: of n entities, and of 32 role names.
 use Rattle.std.specs.Prelude.{ℕ, ◌<◌, List}
-use Rattle.std.specs.List.{AllByRecursion as All}
+use Rattle.std.specs.List.{AllByRecursion}
 use Rattle.credential.specs.declared.Role.{Role}
 use Rattle.credential.specs.declared.Record.{Record}
 use Rattle.credential.specs.declared.Body.{Body}
@@ -22,4 +22,4 @@ pub record CredentialIn (n : ℕ) (c : Credential) : Type 0 where
   pub body : BodyIn n c.body
 
 abbrev pub AllIn : ℕ → List Credential → Type 0
-AllIn n cs = All (CredentialIn n) cs
+AllIn n cs = AllByRecursion (CredentialIn n) cs

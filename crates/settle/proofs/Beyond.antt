@@ -1,7 +1,7 @@
 -- A list of the weights after some rounds shows that table whole.
 use Rattle.std.proofs.Common.{◌≡◌, ℕ, zero, suc, ◌+◌, ◌*◌, ◌<◌, ◌≤◌, Bool, true, false, cond, eqb, ltb, ◌⊎◌, List, [], ◌∷◌, ◌++◌, map, length, get_or, Some, None, Option, sym, refl, ap, ◌∙◌, subst, ap₂, inl, inr, arith}
 use mathlib.Core.Path.{fun_ext}
-use Rattle.std.specs.List.{AllByRecursion as All}
+use Rattle.std.specs.List.{AllByRecursion}
 use Rattle.std.proofs.ByRecursion.{All-append}
 use Rattle.std.proofs.lemmas.List.{get_or-map}
 use Rattle.std.proofs.lemmas.Bool.{lt-ltb, le-ltb, ne_eqb, cases_lt}
@@ -27,7 +27,7 @@ use Rattle.credential.specs.Same.{same_role}
 module _ {S : Type 0} (m : Meaning S) (laws : Laws m) (E : ℕ) where
   module _ (t : Table Membership S) (x : ℕ) (out : E ≤ x) (none : (r : Role) → t (belongs r x) ≡ None) where
     abbrev Nothing : List (Way S) → Type 0
-    Nothing ys = All (λ y. weight_by m t y ≡ None) ys
+    Nothing ys = AllByRecursion (λ y. weight_by m t y ≡ None) ys
 
     through_none : (p : ℕ) (b : Role) (f : ℕ → Role) (ks : List ℕ) → Nothing (map (λ k. way p k (full_weight m) (belongs b k ∷ belongs (f k) x ∷ [])) ks)
     through_none p b f [] = tt

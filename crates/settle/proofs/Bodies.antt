@@ -1,6 +1,6 @@
 -- What the loops offer to a row are the ways that the credential's body gives.
 use Rattle.std.proofs.Common.{◌≡◌, ℕ, zero, suc, ◌+◌, ◌<◌, ◌≤◌, Bool, true, false, cond, ◌||◌, eqb, ltb, List, [], ◌∷◌, map, Some, None, filter, Option, sym, refl, ap, ◌∙◌, subst, ap₂, ⊎_elim, arith}
-use Rattle.std.specs.List.{AllByRecursion as All}
+use Rattle.std.specs.List.{AllByRecursion}
 use Rattle.std.proofs.lemmas.Bool.{eq-eqb, lt-ltb, ne_eqb, cases_eq}
 use Rattle.scale.specs.Scale.{Meaning, Laws, combined, full_weight}
 use Rattle.scale.specs.Order.{combine_full_right}
@@ -22,11 +22,11 @@ use Rattle.credential.specs.declared.Record.{Record}
 use Rattle.credential.specs.declared.Body.{Body}
 use Rattle.credential.specs.declared.Body.TheVariants.{Member, Delegation, Link, Intersection}
 
-kept_all : {X : Type 0} (p : X → Bool) (xs : List X) → All (λ x. p x ≡ true) xs → filter p xs ≡ xs
+kept_all : {X : Type 0} (p : X → Bool) (xs : List X) → AllByRecursion (λ x. p x ≡ true) xs → filter p xs ≡ xs
 kept_all p [] h = refl
 kept_all p (x ∷ xs) h = ap₂ (λ (v : Bool) (ys : List _). cond v (x ∷ ys) ys) h.0 (kept_all p xs h.1)
 
-kept_nothing : {X : Type 0} (p : X → Bool) (xs : List X) → All (λ x. p x ≡ false) xs → filter p xs ≡ []
+kept_nothing : {X : Type 0} (p : X → Bool) (xs : List X) → AllByRecursion (λ x. p x ≡ false) xs → filter p xs ≡ []
 kept_nothing p [] h = refl
 kept_nothing p (x ∷ xs) h = ap₂ (λ (v : Bool) (ys : List _). cond v (x ∷ ys) ys) h.0 (kept_nothing p xs h.1)
 
@@ -86,7 +86,7 @@ module _ {S : Type 0} (m : Meaning S) (laws : Laws m) where
         Kept y = Row base E (λ x. offered m (shown rs E former) (filter (worth fresh rs changed) (ways_by m E p y x))) s a
 
         -- all that a body gives, where each way is worth it
-        pub kept_whole : (y : Body Record) → ((x : ℕ) → All (λ z. worth fresh rs changed z ≡ true) (ways_by m E p y x)) → Given y → Kept y
+        pub kept_whole : (y : Body Record) → ((x : ℕ) → AllByRecursion (λ z. worth fresh rs changed z ≡ true) (ways_by m E p y x)) → Given y → Kept y
         kept_whole y h q = row_as base E _ _ s a (λ x l e. ap (λ ys. offered m (shown rs E former) ys e) (sym (kept_all (worth fresh rs changed) (ways_by m E p y x) (h x)))) q
 
         pub by_link : (b : Role) (t : RoleName) → RoleIn E b → t.0 < 32 → Row base E (λ x. through m (λ k. flag_of changed (head_at index b) || flag_of changed (head_at index (role_of k t))) (λ k. combined m (weight_at former E (head_at index b) k) (weight_at former E (head_at index (role_of k t)) x)) p E) s a → Kept (Link b t)
@@ -99,5 +99,5 @@ module _ {S : Type 0} (m : Meaning S) (laws : Laws m) where
             (λ k. refl) (λ k. refl) e) q
 
     -- nothing that a body gives, where no way is worth it
-    pub kept_none : (p base : ℕ) (s : ℕ → Entry S) (fresh : Bool) (changed : List Bool) (y : Body Record) → ((x : ℕ) → All (λ z. worth fresh rs changed z ≡ false) (ways_by m E p y x)) → Row base E (λ x. offered m (shown rs E former) (filter (worth fresh rs changed) (ways_by m E p y x))) s s
+    pub kept_none : (p base : ℕ) (s : ℕ → Entry S) (fresh : Bool) (changed : List Bool) (y : Body Record) → ((x : ℕ) → AllByRecursion (λ z. worth fresh rs changed z ≡ false) (ways_by m E p y x)) → Row base E (λ x. offered m (shown rs E former) (filter (worth fresh rs changed) (ways_by m E p y x))) s s
     kept_none p base s fresh changed y h = row_as base E _ _ s s (λ x l e. ap (λ ys. offered m (shown rs E former) ys e) (sym (kept_nothing (worth fresh rs changed) (ways_by m E p y x) (h x)))) (row_same base E s)

@@ -88,7 +88,7 @@ fn room(rt: HostRuntime) -> Result<(), Fail> {
     let register = register(rt.alloc())?;
     let mut enough = [b'#'; 24];
     assert_eq!(rt; write(&register, &member(1, -1, 0), &mut enough), Ok(24));
-    assert_eq!(rt; enough.as_slice(), b"Ann.friend <- Bob : -1 0");
+    assert_eq!(rt; enough.as_slice(), b"Ann.friend <- Bob : -1 0".as_slice());
     let mut short = [b'#'; 23];
     assert_eq!(rt;
         write(&register, &member(1, -1, 0), &mut short),
