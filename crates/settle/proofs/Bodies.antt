@@ -31,7 +31,7 @@ kept_nothing p [] h = refl
 kept_nothing p (x ∷ xs) h = ap₂ (λ (v : Bool) (ys : List _). cond v (x ∷ ys) ys) h.0 (kept_nothing p xs h.1)
 
 -- what holds of a way of a membership holds of all its ways
-pub each_way : {S : Type 0} (P : Way S → Type 0) (v : Bool) (y : Way S) → P y → All P (cond v (y ∷ []) [])
+pub each_way : {S : Type 0} (P : Way S → Type 0) (v : Bool) (y : Way S) → P y → AllByRecursion P (cond v (y ∷ []) [])
 each_way P true y h = (h, tt)
 each_way P false y h = tt
 
