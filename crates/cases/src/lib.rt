@@ -1,6 +1,11 @@
-// Whole runs of the gate as tests: each case is an input and the text that it prints.
+// Whole runs of the gate as tests, each case an input and the text that it prints; and decisions of the
+// library.
 #![tactic(auto)]
 
+#[cfg(test)]
+mod asked;
+#[cfg(test)]
+mod edges;
 #[cfg(test)]
 mod header;
 #[cfg(test)]
