@@ -1,5 +1,5 @@
 -- Every credential in force has enrolled numbers.
-use Rattle.std.proofs.Common.{◌≡◌, ℕ, zero, suc, ◌+◌, ◌≤◌, Bool, true, false, cond, not, ltb, leb, List, [], ◌∷◌, ◌++◌, length, Some, None, Option, refl, arith}
+use Rattle.std.proofs.Common.{◌≡◌, ℕ, zero, suc, ◌≤◌, Bool, true, false, cond, not, ltb, leb, List, [], ◌∷◌, ◌++◌, length, Some, None, Option, refl, arith}
 use Rattle.std.specs.List.{remove}
 use Rattle.std.proofs.lemmas.List.{length-append}
 use Rattle.std.proofs.lemmas.Bool.{and_parts, and_from, ltb-true, lt-ltb}
@@ -11,7 +11,7 @@ use Rattle.credential.specs.Same.{Credential, Statement, statement_of, says}
 use Rattle.book.specs.declared.refusal.Kind.{Kind}
 use Rattle.book.specs.declared.refusal.Kind.TheVariants.{Entity, RoleName}
 use Rattle.book.specs.Names.{kind_of}
-use Rattle.book.specs.Plain.{Plain, Call, enrol, add, withdraw, Answer, numbered, at_place, refused, first, among, names, with_name, with_credentials, enrol_answer, role_enrolled, body_enrolled, claim_enrolled, enrolled, in_range, withdraw_answer, put_name, unless_refused, next}
+use Rattle.book.specs.Plain.{Plain, Call, enrol, add, withdraw, Answer, numbered, at_place, refused, first, among, with_name, with_credentials, enrol_answer, role_enrolled, body_enrolled, claim_enrolled, enrolled, in_range, withdraw_answer, put_name, unless_refused, next}
 
 -- all of cs have numbers below E and R
 abbrev pub AllBelow : ℕ → ℕ → List Credential → Type 0

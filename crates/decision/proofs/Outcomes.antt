@@ -1,5 +1,5 @@
 -- From what is ruled to what decide promises.
-use Rattle.std.proofs.Common.{◌≡◌, ℕ, ◌-◌, ◌≤◌, Bool, true, false, cond, ◌||◌, ltb, List, ◌++◌, length, drop, Some, None, Ok, Err, Option, sym, refl, ap, ◌∙◌, subst, ap₂, arith}
+use Rattle.std.proofs.Common.{◌≡◌, ℕ, ◌-◌, ◌≤◌, Bool, true, false, cond, ◌||◌, ltb, List, ◌++◌, length, drop, Some, None, Ok, sym, refl, ap, ◌∙◌, subst, ap₂, arith}
 use borrow.Rule.Slice.PartMut.{post_of, Post-is}
 use Rattle.std.proofs.lemmas.Bool.{ltb-false}
 use Rattle.credential.specs.declared.Record.{Record}
@@ -7,9 +7,8 @@ use Rattle.scale.specs.Scale.{Meaning}
 use Rattle.source.specs.Shows.{Shown, stated}
 use Rattle.rules.specs.declared.memberships.Membership.{Membership}
 use Rattle.decision.specs.declared.verdict.Verdict.{Verdict}
-use Rattle.decision.specs.declared.verdict.DecideRefusal.{DecideRefusal}
-use Rattle.decision.specs.Answers.{Refused, refused_for_want_of}
-use Rattle.decision.specs.Conditions.{Lists, short, or_else, many_cells, unfit, cramped, refusal}
+use Rattle.decision.specs.Answers.{refused_for_want_of}
+use Rattle.decision.specs.Conditions.{Lists, short, or_else, many_cells, unfit, cramped}
 use Rattle.decision.specs.Decided.{Ruled, Decided}
 
 -- where no list is short, each has room

@@ -1,6 +1,5 @@
 -- What the settled weight of the goal says of its derivations.
-use Rattle.std.proofs.Common.{◌≡◌, ℕ, zero, suc, ◌*◌, ◌<◌, ◌≤◌, List, [], ◌∷◌, length, Some, None, Option, sym, refl, ap, ◌∙◌, subst, arith}
-use Rattle.std.specs.List.{slice_get}
+use Rattle.std.proofs.Common.{◌≡◌, ℕ, zero, suc, ◌<◌, ◌≤◌, List, [], ◌∷◌, Some, Option, sym, refl, ap, ◌∙◌, subst, arith}
 use Rattle.credential.specs.declared.Record.{Record}
 use Rattle.credential.specs.declared.Body.{Body}
 use Rattle.credential.specs.declared.Body.TheVariants.{Member, Delegation, Link, Intersection}
@@ -13,9 +12,9 @@ use Rattle.rules.specs.Derivation.{Derivation}
 use Rattle.rules.specs.Tables.{table}
 use Rattle.rules.specs.Theorems.{MemberBelow, MembersEnrolled}
 use Rattle.rules.specs.Cells.{heads, weights_after}
-use Rattle.rules.proofs.Order.{at_least_trans, at_least_none, at_least_antisym}
+use Rattle.rules.proofs.Order.{at_least_trans}
 use Rattle.rules.proofs.Steps.{derivations_below, derivation_reaches}
-use Rattle.heads.specs.Enrolled.{RoleIn, BodyIn, CredentialIn, AllIn}
+use Rattle.heads.specs.Enrolled.{RoleIn, BodyIn, AllIn}
 use Rattle.heads.specs.Index.{Indexed, head_at}
 use Rattle.settle.specs.Entries.{weight_at}
 use Rattle.settle.specs.Settled.{Settles}

@@ -1,5 +1,5 @@
 -- What decide answers and leaves where it does not refuse.
-use Rattle.std.specs.Prelude.{◌≡◌, ℕ, Bool, true, false, List, ◌++◌, take, drop, Some, None, Ok, Err, Option, Result}
+use Rattle.std.specs.Prelude.{◌≡◌, ℕ, Bool, true, false, List, ◌++◌, take, drop, Some, Ok, Err, Result}
 use Rattle.credential.specs.declared.Record.{Record}
 use Rattle.credential.specs.Same.{Credential}
 use Rattle.scale.specs.Scale.{Meaning, AtLeast}

@@ -1,5 +1,5 @@
 -- The credentials of what is shown, place by place.
-use Rattle.std.proofs.Common.{◌≡◌, ℕ, zero, suc, ◌<◌, ◌≤◌, List, [], ◌∷◌, map, length, get_or, Some, None, sym, refl, ap, ◌∙◌, arith}
+use Rattle.std.proofs.Common.{◌≡◌, ℕ, zero, suc, ◌<◌, ◌≤◌, List, [], ◌∷◌, length, get_or, Some, None, sym, refl, ap, arith}
 use Rattle.scale.specs.Order.{none_some, some_is}
 use Rattle.credential.specs.Same.{Credential}
 use Rattle.source.specs.Shows.{Shown, stated, credential_at, origin_at}

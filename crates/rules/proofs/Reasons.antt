@@ -3,7 +3,7 @@ use Rattle.std.proofs.Common.{◌≡◌, ℕ, ◌<◌, ◌≤◌, sym, ◌∙◌
 use mathlib.Core.List.{Memᴰ}
 use native.Mathlib.Decide.{dec_le}
 use Rattle.scale.specs.Scale.{Meaning, Laws, AtLeast}
-use Rattle.rules.specs.System.{Candidate, System, weighs, round, after}
+use Rattle.rules.specs.System.{Candidate, System, weighs, after}
 use Rattle.rules.proofs.Order.{at_least_trans, at_least_antisym}
 use Rattle.rules.proofs.Rounds.{later, product_below}
 

@@ -8,7 +8,6 @@ use Rattle.credential.specs.declared.Body.TheVariants.{Member, Delegation, Link,
 use Rattle.credential.specs.Same.{Credential}
 use Rattle.scale.specs.Scale.{Meaning}
 use Rattle.rules.specs.declared.memberships.Membership.{Membership}
-use Rattle.rules.specs.declared.memberships.Reason.{Reason}
 use Rattle.rules.specs.declared.memberships.Step.{Step}
 use Rattle.rules.specs.Ways.{belongs, role_of}
 use Rattle.rules.specs.Tables.{reason}

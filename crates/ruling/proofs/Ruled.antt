@@ -1,5 +1,5 @@
 -- From what decide answers to what is ruled for a line.
-use Rattle.std.proofs.Common.{◌≡◌, ◌≤◌, List, [], length, Result, subst, arith, length-take, take_all}
+use Rattle.std.proofs.Common.{◌≡◌, List, [], length, Result, subst, take_all}
 use Rattle.credential.specs.Same.{Credential}
 use Rattle.scale.specs.Scale.{Meaning}
 use Rattle.book.specs.Plain.{Plain}

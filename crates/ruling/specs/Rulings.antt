@@ -2,7 +2,6 @@
 use Rattle.std.specs.Prelude.{◌≡◌, ℕ, List, length, Ok, Err, Result}
 use Rattle.std.specs.Option.{option_map}
 use Rattle.credential.specs.Same.{Credential}
-use Rattle.scale.specs.declared.yes.Yes.{Yes}
 use Rattle.scale.specs.declared.ceiling.Ceiling.{Ceiling}
 use Rattle.scale.specs.declared.distance.Distance.{Distance}
 use Rattle.scale.specs.declared.pair.Pair.{Pair}

@@ -1,5 +1,5 @@
 -- How two pairs compare, by how their first parts do.
-use Rattle.std.proofs.Common.{◌≡◌, Bool, false, ◌⊎◌, Some, Decides, sym, refl, ap, ◌∙◌, subst, ⊎_elim}
+use Rattle.std.proofs.Common.{◌≡◌, Bool, false, Some, Decides, sym, refl, ap, ◌∙◌, subst, ⊎_elim}
 use mathlib.Core.Logic.{if_pos, if_neg}
 use Rattle.std.proofs.lemmas.Bool.{false≢true}
 use Rattle.std.proofs.lemmas.Bool.Decides.{Decides-like}

@@ -1,5 +1,5 @@
 -- A list of the weights after some rounds shows that table whole.
-use Rattle.std.proofs.Common.{◌≡◌, ℕ, zero, suc, ◌+◌, ◌*◌, ◌<◌, ◌≤◌, Bool, true, false, cond, eqb, ltb, ◌⊎◌, List, [], ◌∷◌, ◌++◌, map, length, get_or, Some, None, Option, sym, refl, ap, ◌∙◌, subst, ap₂, inl, inr, arith}
+use Rattle.std.proofs.Common.{◌≡◌, ℕ, zero, suc, ◌+◌, ◌*◌, ◌<◌, ◌≤◌, Bool, true, false, cond, ◌⊎◌, List, [], ◌∷◌, map, get_or, Some, None, Option, sym, refl, ap, ◌∙◌, subst, ap₂, inl, inr, arith}
 use mathlib.Core.Path.{fun_ext}
 use Rattle.std.specs.List.{AllByRecursion}
 use Rattle.std.proofs.ByRecursion.{All-append}
@@ -11,7 +11,7 @@ use Rattle.rules.specs.System.{Table, weighs}
 use Rattle.scale.specs.Best.{best_of}
 use Rattle.rules.specs.declared.memberships.Membership.{Membership}
 use Rattle.rules.specs.Ways.{belongs, role_of, Way, way, below, ways_by, ways_of, ways_from, ways}
-use Rattle.rules.specs.Tables.{candidate, weight_by, table, system}
+use Rattle.rules.specs.Tables.{candidate, weight_by, table}
 use Rattle.rules.specs.Cells.{heads, number, cells, weights_after}
 use Rattle.heads.specs.Enrolled.{BodyIn, CredentialIn, AllIn}
 use Rattle.settle.specs.Entries.{weight_at, shown}

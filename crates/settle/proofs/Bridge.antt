@@ -1,5 +1,5 @@
 -- The ways offered in turn leave the best of them, and the first with that weight.
-use Rattle.std.proofs.Common.{◌≡◌, ℕ, zero, suc, Bool, true, false, cond, ◌⊎◌, List, [], ◌∷◌, ◌++◌, map, Some, None, filter, Option, sym, refl, ap, ◌∙◌, subst, ap₂, inl, inr}
+use Rattle.std.proofs.Common.{◌≡◌, ℕ, suc, Bool, true, false, cond, ◌⊎◌, List, [], ◌∷◌, ◌++◌, map, filter, Option, sym, refl, ap, ◌∙◌, subst, ap₂, inl, inr}
 use mathlib.Core.Logic.{ite, if_pos, if_neg}
 use mathlib.Core.List.{Memᴰ}
 use Rattle.std.proofs.lemmas.List.Elements.{filter-append}

@@ -1,5 +1,5 @@
 -- A round's lists, and the end of the rounds.
-use Rattle.std.proofs.Common.{◌≡◌, ℕ, zero, suc, ◌+◌, ◌*◌, ◌<◌, ◌≤◌, Bool, true, false, cond, ◌⊎◌, List, [], ◌∷◌, ◌++◌, map, length, get_or, is_some as option_is_some, Some, None, filter, Option, sym, refl, ap, ◌∙◌, subst, ap₂, inl, inr, arith}
+use Rattle.std.proofs.Common.{◌≡◌, ℕ, zero, suc, ◌+◌, ◌*◌, ◌<◌, ◌≤◌, Bool, true, false, cond, ◌⊎◌, List, [], ◌∷◌, map, length, get_or, is_some as option_is_some, Some, None, filter, Option, sym, refl, ap, ◌∙◌, subst, ap₂, inl, inr, arith}
 use mathlib.Core.Path.{fun_ext}
 use mathlib.Core.List.{Memᴰ}
 use lib.ListN.{length-map}
@@ -18,7 +18,7 @@ use Rattle.settle.specs.Entries.{Entry, entry_at, offered, Spread}
 use Rattle.settle.specs.Settled.{Settles}
 use Rattle.settle.proofs.Bridge.{entry_after, round_entry, offered_weight, better_next}
 use Rattle.heads.proofs.Distinct.{heads_unrepeated}
-use Rattle.heads.proofs.Cells.{Cell, cell_of, cell_from}
+use Rattle.heads.proofs.Cells.{cell_of, cell_from}
 use Rattle.settle.proofs.Beyond.{beyond, headless, weight_cell}
 use Rattle.rules.proofs.Order.{at_least_refl, at_least_antisym}
 use Rattle.rules.proofs.Rounds.{after_grows}

@@ -1,5 +1,5 @@
 -- What a credential gives its head's row, as what it gives each membership.
-use Rattle.std.proofs.Common.{◌≡◌, ℕ, zero, suc, ◌+◌, ◌*◌, ◌<◌, ◌≤◌, Bool, true, false, cond, ◌⊎◌, List, [], ◌∷◌, ◌++◌, length, get_or, take, Some, None, filter, Option, sym, refl, ap, ◌∙◌, subst, inl, inr, append_assoc, append-nil, arith}
+use Rattle.std.proofs.Common.{◌≡◌, ℕ, suc, ◌+◌, ◌*◌, ◌<◌, Bool, true, false, cond, ◌⊎◌, List, [], ◌∷◌, ◌++◌, length, get_or, take, Some, None, filter, Option, sym, refl, ap, ◌∙◌, subst, inl, inr, append_assoc, append-nil, arith}
 use Rattle.std.proofs.lemmas.List.{take_more, length-take}
 use Rattle.scale.specs.Scale.{Meaning, Laws}
 use Rattle.scale.specs.Order.{none_some, some_is}
@@ -7,7 +7,7 @@ use Rattle.rules.specs.System.{Table}
 use Rattle.rules.specs.declared.memberships.Membership.{Membership}
 use Rattle.rules.specs.Ways.{belongs, Way, ways_by, ways_of, ways_from}
 use Rattle.rules.specs.Cells.{number}
-use Rattle.settle.specs.Entries.{Entry, offered, Row, RowOf, Spread}
+use Rattle.settle.specs.Entries.{Entry, offered, RowOf, Spread}
 use Rattle.settle.proofs.Bridge.{kept_append}
 use Rattle.heads.proofs.Roles.{which, same_number, rows_apart}
 use Rattle.credential.specs.declared.Role.{Role}

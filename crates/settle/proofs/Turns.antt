@@ -1,7 +1,6 @@
 -- The turns of the loop of rounds.
-use Rattle.std.proofs.Common.{◌≡◌, ℕ, zero, suc, ◌+◌, ◌*◌, ◌<◌, ◌≤◌, Bool, true, false, ◌⊎◌, List, [], ◌∷◌, map, length, get_or, replicate, Some, None, filter, Option, sym, refl, ap, ◌∙◌, subst, ap₂, inl, inr, add-one, arith}
+use Rattle.std.proofs.Common.{◌≡◌, ℕ, suc, ◌+◌, ◌*◌, ◌<◌, ◌≤◌, Bool, true, false, ◌⊎◌, List, [], ◌∷◌, map, length, get_or, replicate, Some, None, filter, Option, sym, refl, ap, ◌∙◌, subst, ap₂, inl, inr, add-one, arith}
 use mathlib.Core.Path.{fun_ext}
-use lib.ListN.{length-map}
 use Rattle.scale.specs.Scale.{Meaning, Laws, Chooses, AtLeast}
 use Rattle.scale.specs.Order.{none_some, some_is}
 use Rattle.credential.specs.declared.Role.{Role}
@@ -9,11 +8,11 @@ use Rattle.credential.specs.Same.{Credential, same_role}
 use Rattle.rules.specs.declared.memberships.Reason.{Reason}
 use Rattle.rules.specs.declared.memberships.Membership.{Membership}
 use Rattle.rules.specs.Ways.{belongs, Way, ways}
-use Rattle.rules.specs.Tables.{no_reason, weight_by, table, Still}
+use Rattle.rules.specs.Tables.{weight_by, table, Still}
 use Rattle.rules.specs.Cells.{heads, number, cells_of, cells, weights_after, reasons_after}
-use Rattle.heads.specs.Index.{Indexed, head_at}
+use Rattle.heads.specs.Index.{Indexed}
 use Rattle.heads.specs.Enrolled.{AllIn}
-use Rattle.settle.specs.Entries.{Entry, entry_at, offered, shown, Held, Rooms, Spread}
+use Rattle.settle.specs.Entries.{entry_at, offered, shown, Held, Rooms, Spread}
 use Rattle.settle.specs.Settled.{Settles}
 use Rattle.settle.specs.Moves.{flag_of, worth, RowChanged, AnySet, Noted}
 use Rattle.heads.proofs.Roles.{which, numbered_first, numbered_later, one_less}

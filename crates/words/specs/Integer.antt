@@ -1,5 +1,5 @@
--- The integer of 32 signed bits that a text spells. The one spelling of a number z is `signed z`, the text that
--- `{n}` writes: decimal digits with no leading zero, after a minus where z is negative.
+-- The integer of 32 signed bits that a text spells. The one spelling of a number z is `signed_decimal z`, the text
+-- that `{n}` writes: decimal digits with no leading zero, after a minus where z is negative.
 use Rattle.std.specs.Prelude.{◌≡◌, ℕ, ◌^◌, Bool, cond, ◌&&◌, List, ℤ, Some, None, Option, MatchOption, FitsSigned, ◌≢◌, nat_lt}
 use Rattle.std.specs.Int.Signed.{mag}
 use Rattle.std.specs.Int.{w32}

@@ -1,7 +1,7 @@
-use Rattle.std.proofs.Common.{◌≡◌, ℕ, ◌*◌, ◌≤◌, false, List, length, replicate, sym, refl, ap, ◌∙◌, subst, ap₂, arith, rules}
+use Rattle.std.proofs.Common.{◌≡◌, ◌*◌, length, replicate, sym, refl, ap, ◌∙◌, subst, ap₂, arith, rules}
 use Rattle.std.proofs.lemmas.Bool.{and_parts, ltb-true}
 use Rattle.book.specs.Kept.{entities, role_names}
-use Rattle.book.proofs.Counts.{few_entities, few_role_names}
+use Rattle.book.proofs.Counts.{few_role_names}
 use Rattle.source.specs.Shows.{stated}
 use Rattle.rules.specs.Cells.{weights_after, reasons_after}
 use Rattle.heads.specs.Enrolled.{RoleIn, AllIn}

@@ -1,10 +1,8 @@
-use Rattle.std.proofs.Common.{◌≡◌, ℕ, ◌*◌, List, length, Some, None, Option, sym, refl, ap, ◌∙◌, subst, arith}
-use Rattle.scale.specs.Scale.{AtLeast}
+use Rattle.std.proofs.Common.{◌≡◌, ℕ, ◌*◌, length, Some, None, Option, sym, ap, ◌∙◌, subst, arith}
 use Rattle.scale.specs.Order.{none_some, some_is}
 use Rattle.source.specs.Shows.{stated}
 use Rattle.rules.specs.Cells.{heads}
 use Rattle.rules.specs.Tables.{table}
-use Rattle.heads.specs.Index.{head_at}
 use Rattle.settle.specs.Entries.{weight_at, Held}
 use Rattle.settle.proofs.Turns.{rooms}
 use Rattle.derivation.specs.Explained.{Reasoned}

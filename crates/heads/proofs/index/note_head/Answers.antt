@@ -1,4 +1,4 @@
-use Rattle.std.proofs.Common.{◌≡◌, ℕ, List, [], ◌∷◌, ◌++◌, length, get_or, set, sym, ap, ◌∙◌, subst, arith, length-append}
+use Rattle.std.proofs.Common.{◌≡◌, ℕ, [], ◌∷◌, ◌++◌, length, get_or, set, sym, ap, ◌∙◌, subst, arith, length-append}
 use Rattle.heads.specs.Index.{noted, slot, Indexed}
 use Rattle.heads.proofs.Numbering.{noted_there, noted_new, index_more}
 use Rattle.heads.proofs.index.note_head.Goals as goal

@@ -1,9 +1,6 @@
-use Rattle.std.proofs.Common.{◌≡◌, ℕ, List, length, Ok, Err, sym, refl, ap, ◌∙◌, rules}
-use lib.ListN.{length-replicate}
+use Rattle.std.proofs.Common.{◌≡◌, Ok, sym, refl, ap, ◌∙◌, rules}
 use Rattle.book.specs.Kept.{plain}
 use Rattle.source.specs.Slips.{presented}
-use Rattle.rules.specs.declared.memberships.Reason.{Reason}
-use Rattle.rules.specs.declared.memberships.Step.{Step}
 use Rattle.ruling.specs.Rulings.{ruling_by}
 use Rattle.ruling.proofs.Ruled.{ruled}
 use Rattle.ruling.proofs.asking.decide_on.Goals as goal

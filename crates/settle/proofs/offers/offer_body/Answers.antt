@@ -1,6 +1,5 @@
-use Rattle.std.proofs.Common.{◌≡◌, ℕ, Bool, true, false, ◌||◌, eqb, List, [], Option, sym, ap, ◌∙◌, ap₂}
+use Rattle.std.proofs.Common.{◌≡◌, ℕ, Bool, true, ◌||◌, eqb, List, [], Option, sym, ap, ◌∙◌, ap₂}
 use Rattle.credential.specs.declared.Role.{Role}
-use Rattle.credential.specs.declared.Body.{Body}
 use Rattle.credential.specs.declared.Body.TheVariants.{Member, Delegation, Link, Intersection}
 use Rattle.rules.specs.Ways.{way}
 use Rattle.rules.specs.Cells.{number}

@@ -1,4 +1,4 @@
-use Rattle.std.proofs.Common.{◌≡◌, ℕ, length, filter, Option, sym, ◌∙◌, subst, arith}
+use Rattle.std.proofs.Common.{ℕ, length, filter, Option, ◌∙◌, subst, arith}
 use Rattle.rules.specs.Ways.{ways_by}
 use Rattle.settle.specs.Entries.{entry_at, offered, shown, RowOf}
 use Rattle.settle.specs.Moves.{worth}

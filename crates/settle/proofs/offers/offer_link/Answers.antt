@@ -1,7 +1,7 @@
-use Rattle.std.proofs.Common.{◌≡◌, ℕ, Bool, true, false, ◌||◌, Option, sym, ap, ◌∙◌, arith}
+use Rattle.std.proofs.Common.{◌≡◌, ℕ, true, false, ◌||◌, Option, sym, ap, ◌∙◌, arith}
 use Rattle.rules.specs.Ways.{role_of}
 use Rattle.heads.specs.Index.{head_at}
-use Rattle.settle.specs.Entries.{weight_at, Held}
+use Rattle.settle.specs.Entries.{weight_at}
 use Rattle.settle.specs.Moves.{flag_of}
 use Rattle.settle.proofs.Rows.{row_same, link_more}
 use Rattle.settle.proofs.offers.offer_link.Goals as goal

@@ -1,4 +1,4 @@
-use Rattle.std.proofs.Common.{◌≡◌, ℕ, ◌<◌, List, length, get_or, filter, sym, ap, ◌∙◌, subst, arith, take_all}
+use Rattle.std.proofs.Common.{◌<◌, List, length, filter, subst, arith, take_all}
 use Rattle.std.proofs.ByRecursion.{All-get_or}
 use Rattle.credential.specs.Same.{Credential}
 use Rattle.rules.specs.Cells.{heads}

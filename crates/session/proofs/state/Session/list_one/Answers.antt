@@ -1,4 +1,4 @@
-use Rattle.std.proofs.Common.{◌-◌, [], ◌∷◌, ◌++◌, take, vec_items, ap, ◌∙◌, append_assoc, arith}
+use Rattle.std.proofs.Common.{[], ◌∷◌, ◌++◌, take, vec_items, ap, ◌∙◌, append_assoc, arith}
 use Rattle.session.proofs.state.Session.list_one.Goals as goal
 
 pub returns : goal.returns
