@@ -5,8 +5,8 @@ Run once, at the top, after the toolchain's port script:  python3 tools/respell.
 
 Words are in snake case, types and facts in camel case. Only names that the
 repository's specs/ and proofs/ define are turned (definitions, lemmas, fields,
-constructors, let-bound facts), wherever they stand: in specs/, proofs/, clauses, imports and in
-docs/ between backticks. Names of the library, of goals and of src/ are left,
+constructors, let-bound facts), wherever they stand: in specs/, proofs/, clauses, imports and
+edits, and in docs/ between backticks. Names of the library, of goals and of src/ are left,
 and so are comments and strings.
 It prints each name, and stops where two names would fall together.
 """

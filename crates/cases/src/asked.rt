@@ -36,7 +36,7 @@ fn record(ceiling: i32, distance: i32) -> Record {
     Record { ceiling, distance }
 }
 
-// Whether Dana may push to Forge, at least so far.
+// Whether Dana belongs to Forge.push with at least the threshold.
 fn asked(scale: ScaleWord, threshold: Record) -> Asked {
     Asked {
         scale,

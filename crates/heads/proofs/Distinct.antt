@@ -4,8 +4,7 @@ use Rattle.std.specs.Option.{option_map}
 use Rattle.scale.specs.Scale.{Meaning}
 use Rattle.scale.specs.Order.{none_some}
 use Rattle.credential.specs.declared.Role.{Role}
-use Rattle.credential.specs.Same.{Credential}
-use Rattle.credential.specs.Same.{same_role}
+use Rattle.credential.specs.Same.{Credential, same_role}
 use Rattle.rules.specs.Ways.{belongs, ways_by, ways_from}
 use Rattle.rules.specs.Cells.{others, heads, number}
 use Rattle.heads.proofs.Roles.{which, numbered_first, numbered_later, none_less}

@@ -5,8 +5,7 @@ use Rattle.credential.specs.declared.Role.{Role}
 use Rattle.credential.specs.declared.Record.{Record}
 use Rattle.credential.specs.declared.Body.{Body}
 use Rattle.credential.specs.declared.Body.TheVariants.{Member, Delegation, Link, Intersection}
-use Rattle.credential.specs.Same.{Credential}
-use Rattle.credential.specs.Same.{same_role}
+use Rattle.credential.specs.Same.{Credential, same_role}
 use Rattle.rules.specs.Cells.{others, heads}
 use Rattle.heads.specs.Enrolled.{RoleIn, BodyIn, CredentialIn, AllIn}
 

@@ -5,8 +5,7 @@ use Rattle.std.proofs.lemmas.List.{get_or-set_same, get_or-set_other, get_or-rep
 use Rattle.std.proofs.lemmas.Bool.{ne_eqb}
 use Rattle.scale.specs.Order.{none_some}
 use Rattle.credential.specs.declared.Role.{Role}
-use Rattle.credential.specs.Same.{Credential}
-use Rattle.credential.specs.Same.{same_role}
+use Rattle.credential.specs.Same.{Credential, same_role}
 use Rattle.rules.specs.Cells.{others, heads, number}
 use Rattle.heads.specs.Index.{noted_as, noted, as_number, slot, Indexed}
 use Rattle.heads.specs.Enrolled.{RoleIn}

@@ -27,21 +27,21 @@ role_self a = and_from _ _ (eq-eqb a.entity.0 _ refl) (eq-eqb a.name.0 _ refl)
 
 mem_either : {X : Type 0} {x : X} (xs ys : List X) → Memᴰ x (xs ++ ys) → Memᴰ x xs ⊎ Memᴰ x ys
 mem_either [] ys m = inr m
-mem_either (y ∷ xs) ys (mathlib.Core.List.Memᴰ.head e) = inl (mathlib.Core.List.Memᴰ.head e)
-mem_either {x = x} (y ∷ xs) ys (mathlib.Core.List.Memᴰ.tail m) = by (mem_either xs ys m)
+mem_either (y ∷ xs) ys (Memᴰ.head e) = inl (Memᴰ.head e)
+mem_either {x = x} (y ∷ xs) ys (Memᴰ.tail m) = by (mem_either xs ys m)
   where
     by : Memᴰ x xs ⊎ Memᴰ x ys → Memᴰ x (y ∷ xs) ⊎ Memᴰ x ys
-    by (inl k) = inl (mathlib.Core.List.Memᴰ.tail k)
+    by (inl k) = inl (Memᴰ.tail k)
     by (inr k) = inr k
 
 mem_left : {X : Type 0} {x : X} (xs ys : List X) → Memᴰ x xs → Memᴰ x (xs ++ ys)
 mem_left [] ys h = elim h [ ]
-mem_left (z ∷ xs) ys (mathlib.Core.List.Memᴰ.head e) = mathlib.Core.List.Memᴰ.head e
-mem_left (z ∷ xs) ys (mathlib.Core.List.Memᴰ.tail h) = mathlib.Core.List.Memᴰ.tail (mem_left xs ys h)
+mem_left (z ∷ xs) ys (Memᴰ.head e) = Memᴰ.head e
+mem_left (z ∷ xs) ys (Memᴰ.tail h) = Memᴰ.tail (mem_left xs ys h)
 
 mem_right : {X : Type 0} {x : X} (xs ys : List X) → Memᴰ x ys → Memᴰ x (xs ++ ys)
 mem_right [] ys h = h
-mem_right (z ∷ xs) ys h = mathlib.Core.List.Memᴰ.tail (mem_right xs ys h)
+mem_right (z ∷ xs) ys h = Memᴰ.tail (mem_right xs ys h)
 
 pub mem_below : (n x : ℕ) → x < n → Memᴰ x (below n)
 mem_below zero x h = absurd (omega arith)
@@ -49,11 +49,11 @@ mem_below (suc n) x h = by (λ l. mem_below n x l) (dec_le (suc x) n)
   where
     by : (x < n → Memᴰ x (below n)) → Dec (suc x ≤ n) → Memᴰ x (below n ++ (n ∷ []))
     by rest (yes l) = mem_left (below n) (n ∷ []) (rest l)
-    by rest (no l) = mem_right (below n) (n ∷ []) (mathlib.Core.List.Memᴰ.head (omega arith))
+    by rest (no l) = mem_right (below n) (n ∷ []) (Memᴰ.head (omega arith))
 
 only : {X : Type 0} {x y : X} → Memᴰ x (y ∷ []) → x ≡ y
-only (mathlib.Core.List.Memᴰ.head e) = e
-only (mathlib.Core.List.Memᴰ.tail m) = elim m [ ]
+only (Memᴰ.head e) = e
+only (Memᴰ.tail m) = elim m [ ]
 
 module _ {S : Type 0} (M : Meaning S) (E : ℕ) where
   -- what a way of the body is, whatever its place
@@ -65,8 +65,8 @@ module _ {S : Type 0} (M : Meaning S) (E : ℕ) where
 
   by_middles : (p : ℕ) (b : Role) (f : ℕ → Role) (x : ℕ) (ks : List ℕ) {w : Way S} → Memᴰ w (map (λ k. way p k (full_weight M) (belongs b k ∷ belongs (f k) x ∷ [])) ks) → (k : ℕ) × (w ≡ way p k (full_weight M) (belongs b k ∷ belongs (f k) x ∷ []))
   by_middles p b f x [] h = elim h [ ]
-  by_middles p b f x (k ∷ ks) (mathlib.Core.List.Memᴰ.head e) = (k, e)
-  by_middles p b f x (k ∷ ks) (mathlib.Core.List.Memᴰ.tail h) = by_middles p b f x ks h
+  by_middles p b f x (k ∷ ks) (Memᴰ.head e) = (k, e)
+  by_middles p b f x (k ∷ ks) (Memᴰ.tail h) = by_middles p b f x ks h
 
   by_name : (p : ℕ) (y : Body Record) (x : ℕ) {w : Way S} → Memᴰ w (ways_by M E p y x) → (w.place ≡ p) × Named y x w
   by_name p (Member y r) x {w} h = by (eqb y.0 x) refl h

@@ -106,13 +106,13 @@ module _ {S : Type 0} (M : Meaning S) (laws : Laws M) where
     one_good c i s ds w at good in_range (Member x r) is e =
         let p = cond_some (eqb x.0 s.member.0 && (eqb s.middle.0 0 && (eqb s.first 0 && eqb s.second 0))) (M.credential r) w e in
         let same = (and_parts _ _ p.0).0 in
-        let here : Memᴰ (way i 0 (M.credential r) []) (ways_by M E i c.body s.member.0) = subst (λ b. Memᴰ (way i 0 (M.credential r) []) (ways_by M E i b s.member.0)) (sym is) (subst (Memᴰ (way i 0 (M.credential r) [])) (sym (cond-true _ _ _ same)) (mathlib.Core.List.Memᴰ.head refl)) in
+        let here : Memᴰ (way i 0 (M.credential r) []) (ways_by M E i c.body s.member.0) = subst (λ b. Memᴰ (way i 0 (M.credential r) []) (ways_by M E i b s.member.0)) (sym is) (subst (Memᴰ (way i 0 (M.credential r) [])) (sym (cond-true _ _ _ same)) (Memᴰ.head refl)) in
         (subst (λ n. n < E) (eqb-true _ _ same) (subst (MemberBelow E) is in_range), subst (AtLeast M (t (belongs c.head s.member.0))) p.1 (entry_above c i s.member.0 (way i 0 (M.credential r) []) at here))
     one_good c i s ds w at good in_range (Delegation b) is e =
         let p = cond_some (eqb s.middle.0 0 && eqb s.second 0) (cited ds s.first (belongs b s.member.0)) w e in
         let g = good s.first _ (cited_some ds s.first (belongs b s.member.0) w p.1) in
         let y = way i 0 (full_weight M) (belongs b s.member.0 ∷ []) in
-        let here : Memᴰ y (ways_by M E i c.body s.member.0) = subst (λ z. Memᴰ y (ways_by M E i z s.member.0)) (sym is) (mathlib.Core.List.Memᴰ.head refl) in
+        let here : Memᴰ y (ways_by M E i c.body s.member.0) = subst (λ z. Memᴰ y (ways_by M E i z s.member.0)) (sym is) (Memᴰ.head refl) in
         (g.0, at_least_trans M laws _ _ _ (entry_above c i s.member.0 y at here) (subst (λ v. AtLeast M v (Some w)) (sym (combine_full_right M laws _)) g.1))
     one_good c i s ds w at good in_range (Link b u) is e =
         let p = combined_some _ _ w e in
@@ -127,7 +127,7 @@ module _ {S : Type 0} (M : Meaning S) (laws : Laws M) where
         let g = good s.first _ (cited_some ds s.first (belongs b s.member.0) p.0 p.2) in
         let h = good s.second _ (cited_some ds s.second (belongs d s.member.0) p.1 p.3) in
         let y = way i 0 (full_weight M) (belongs b s.member.0 ∷ belongs d s.member.0 ∷ []) in
-        let here : Memᴰ y (ways_by M E i c.body s.member.0) = subst (λ z. Memᴰ y (ways_by M E i z s.member.0)) (sym is) (mathlib.Core.List.Memᴰ.head refl) in
+        let here : Memᴰ y (ways_by M E i c.body s.member.0) = subst (λ z. Memᴰ y (ways_by M E i z s.member.0)) (sym is) (Memᴰ.head refl) in
         (g.0, two_below c i s.member.0 y _ _ w at here refl g.1 h.1 (sym (ap₂ (combined M) p.2 p.3) ∙ r.1))
 
     all_good : {ss : List Step} {ds : List (Concluded S)} → Stands M cs ss ds → AllGood ds

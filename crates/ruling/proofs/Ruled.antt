@@ -1,4 +1,4 @@
--- From what decide answers to what is ruled for a line.
+-- From what decide answers to what is ruled on the scale that is named.
 use Rattle.std.proofs.Common.{◌≡◌, List, [], length, Result, subst, take_all}
 use Rattle.credential.specs.Same.{Credential}
 use Rattle.scale.specs.Scale.{Meaning}

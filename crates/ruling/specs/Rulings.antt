@@ -1,4 +1,4 @@
--- What is decided for a decide line: on the scale that it names, over the book joined with the slip.
+-- What is decided on the scale that a word names, over the book joined with the slip.
 use Rattle.std.specs.Prelude.{◌≡◌, ℕ, List, length, Ok, Err, Result}
 use Rattle.std.specs.Option.{option_map}
 use Rattle.credential.specs.Same.{Credential}

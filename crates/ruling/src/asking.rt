@@ -1,4 +1,4 @@
-// What a decide line asks, decided over the register, its book and the slip.
+// What is asked, decided over the register, its book and the slip.
 ghost use Rattle.std.specs.Prelude.{◌≡◌, length};
 ghost use Rattle.book.specs.Kept.{plain};
 ghost use Rattle.source.specs.Slips.{presented};
@@ -13,7 +13,7 @@ use scale::yes::Yes;
 use scale::{Ceilings, Distances, Nearest};
 use source::{Empty, Slip};
 
-// How many cells the gate lends.
+// How many cells `decide_asked` lends.
 pub const CELLS: usize = 2048;
 
 const NO_ENTITY: Entity = Entity(0);
@@ -40,7 +40,7 @@ pub enum ScaleWord {
     Nearest,
 }
 
-// What a decide line asks, by the numbers of its names.
+// What is asked: a scale, a goal and a threshold, by numbers.
 #[derive(Clone, Copy)]
 pub struct Asked {
     pub scale: ScaleWord,

@@ -27,7 +27,6 @@ pub none_left : (p : Plain) (cs : List Credential) (i : ℕ) (out : List ℕ) �
 none_left p cs i out ge = sym (append-nil out) ∙ ap (λ l. out ++ l) (sym (at_drop_all (listing p) cs i ge))
 
 -- every line leaves all credentials enrolled
-
 line_enrolled : (s : State) (r : Result Act Fault) → AllEnrolled s.book → AllEnrolled (next_by s r).book
 line_enrolled s (Ok (calls call)) h = next_enrolled s.book call h
 line_enrolled s (Ok (presents c)) h = h

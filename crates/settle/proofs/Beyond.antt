@@ -21,8 +21,7 @@ use Rattle.credential.specs.declared.Role.{Role}
 use Rattle.credential.specs.declared.Record.{Record}
 use Rattle.credential.specs.declared.Body.{Body}
 use Rattle.credential.specs.declared.Body.TheVariants.{Member, Delegation, Link, Intersection}
-use Rattle.credential.specs.Same.{Credential}
-use Rattle.credential.specs.Same.{same_role}
+use Rattle.credential.specs.Same.{Credential, same_role}
 
 module _ {S : Type 0} (m : Meaning S) (laws : Laws m) (E : ℕ) where
   module _ (t : Table Membership S) (x : ℕ) (out : E ≤ x) (none : (r : Role) → t (belongs r x) ≡ None) where

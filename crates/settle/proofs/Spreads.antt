@@ -11,8 +11,7 @@ use Rattle.settle.specs.Entries.{Entry, offered, RowOf, Spread}
 use Rattle.settle.proofs.Bridge.{kept_append}
 use Rattle.heads.proofs.Roles.{which, same_number, rows_apart}
 use Rattle.credential.specs.declared.Role.{Role}
-use Rattle.credential.specs.Same.{Credential}
-use Rattle.credential.specs.Same.{same_role}
+use Rattle.credential.specs.Same.{Credential, same_role}
 
 module _ {S : Type 0} (m : Meaning S) (laws : Laws m) (E : ℕ) where
   pub ways_end : (n : ℕ) (cs : List Credential) (c : Credential) (q : Membership) → ways_from m E n (cs ++ (c ∷ [])) q ≡ ways_from m E n cs q ++ ways_of m E (n + length cs) c q

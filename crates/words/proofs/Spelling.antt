@@ -13,7 +13,7 @@ use Rattle.std.proofs.lemmas.Str.{IsUtf8-from_ascii}
 use Rattle.words.specs.Begins.{plain, nonzero, opens, none}
 use Rattle.words.specs.Integer.{canonical, integer, Reads, Exact}
 
--- what the shelf's laws of `parse` are read through
+-- what std's laws of `parse` are read through
 pub own : IsNumeralModel (AllDigits 10) (digits_value 10)
 own = numerals_by_value (AllDigits 10) tells_digits
 

@@ -60,7 +60,7 @@ returns g c =
     let xs = g.R.Source.shows c.args.source.now in
     let E = length (entities c.args.register.now) in
     let many = cells g at in
-    let goal = c.in_ok-asked.heads * c.entity_count-entities.result in
+    let need = c.in_ok-asked.heads * c.entity_count-entities.result in
     let cells_left = lists c.rule.new.former c.rule.new.latest c.rule.new.reasons c.rule.new.steps in
     let ruled : RuledCells M E (stated xs) c.args.goal c.in_ok-asked.asked c.args.steps.now cells_left c.rule.result = subst (λ n. RuledCells M n (stated xs) c.args.goal c.in_ok-asked.asked c.args.steps.now cells_left c.rule.result) c.entity_count-entities.ensures.value c.rule.ensures in
     decided M E (length (role_names c.args.register.now)) xs c.args.goal c.args.threshold (lists c.args.former.now c.args.latest.now c.args.reasons.now c.args.steps.now) _ c.rule.result c.in_ok-asked.asked
@@ -69,7 +69,7 @@ returns g c =
     c.in_ok-asked.ensures.1.asks
     record {
       rules = ruled.rules;
-      former = fronted c.rule.new.former (weights_after M E (stated xs) (rounds_in c.rule.result)) c.args.former.now goal (many_cells E (stated xs)) ruled.former many;
-      latest = fronted c.rule.new.latest (weights_after M E (stated xs) (rounds_in c.rule.result)) c.args.latest.now goal (many_cells E (stated xs)) ruled.latest many;
-      reasons = fronted c.rule.new.reasons (reasons_after M E (stated xs) (rounds_in c.rule.result)) c.args.reasons.now goal (many_cells E (stated xs)) ruled.reasons many;
+      former = fronted c.rule.new.former (weights_after M E (stated xs) (rounds_in c.rule.result)) c.args.former.now need (many_cells E (stated xs)) ruled.former many;
+      latest = fronted c.rule.new.latest (weights_after M E (stated xs) (rounds_in c.rule.result)) c.args.latest.now need (many_cells E (stated xs)) ruled.latest many;
+      reasons = fronted c.rule.new.reasons (reasons_after M E (stated xs) (rounds_in c.rule.result)) c.args.reasons.now need (many_cells E (stated xs)) ruled.reasons many;
     }

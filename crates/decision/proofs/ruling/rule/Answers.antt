@@ -18,7 +18,7 @@ weight_of-best-requires g c =
     let held = (rooms c.args.index.now (heads cs) c.args.entities (length c.settle-rounds.new.latest) c.requires.indexed (c.settle-rounds.auto.latest ∙ c.requires.latest_long ∙ ap (λ k. k * c.args.entities) many)).held c.args.goal.role (omega arith) (omega arith) in
     record {
       held = subst (Held (length c.settle-rounds.new.latest) c.args.entities) (sym c.head_of-head.ensures) held;
-      within = c.requires.member;
+      within = omega (arith, c.requires.member);
     }
 
 -- what was found for the goal is its settled weight

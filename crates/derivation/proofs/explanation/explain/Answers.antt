@@ -1,4 +1,4 @@
-use Rattle.std.proofs.Common.{length, refl}
+use Rattle.std.proofs.Common.{length, refl, arith}
 use Rattle.source.specs.Shows.{stated}
 use Rattle.rules.specs.Cells.{heads}
 use Rattle.heads.proofs.Fewer.{few_cells}
@@ -23,7 +23,7 @@ write_grant-requires g c =
       ready = ready g.S.Scale.laws g.S.Scale.chooses p.few p.known p.short p.indexed p.many p.settled.1;
       acyclic = acyclic g.S.Scale.laws g.S.Scale.chooses p.few p.known p.short p.indexed p.many p.settled.1;
       small = few_cells c.args.entities c.args.heads cs p.few p.short p.many;
-      inside = cell_inside g.S.Scale.laws g.S.Scale.chooses p.few p.known p.short p.indexed p.many p.settled.1 c.in-Some.cell c.in-Some.ensures;
+      inside = omega (arith, cell_inside g.S.Scale.laws g.S.Scale.chooses p.few p.known p.short p.indexed p.many p.settled.1 c.in-Some.cell c.in-Some.ensures);
       room = p.room;
     }
 

@@ -45,8 +45,8 @@ returns-in-Link g c rs ix =
     rw c.in-Link.is (by_link g.S.Scale.meaning g.S.Scale.laws c.args.index.now rs ix c.args.count c.requires.few c.args.former.now c.args.place c.args.base _ _ c.args.fresh c.args.changed.now c.in-Link.b c.in-Link.name known.0 known.1 (simp c.head_of-first.ensures at c.offer_link.ensures))
 
 -- the flags of an intersection's roles
-flag-both : (g : given.Over) (c : After-either_moved g) (rs : List Role) → Indexed c.args.index.now rs → c.either_moved.result ≡ (flag_of c.args.changed.now (number rs c.in-Intersection.b) || flag_of c.args.changed.now (number rs c.in-Intersection.d))
-flag-both g c rs ix =
+flag_both : (g : given.Over) (c : After-either_moved g) (rs : List Role) → Indexed c.args.index.now rs → c.either_moved.result ≡ (flag_of c.args.changed.now (number rs c.in-Intersection.b) || flag_of c.args.changed.now (number rs c.in-Intersection.d))
+flag_both g c rs ix =
     let known : BodyIn c.args.count (Intersection c.in-Intersection.b c.in-Intersection.d) = rw c.in-Intersection.is at c.requires.known in
     let flag = flag_at g.S.Scale.meaning g.S.Scale.laws c.args.index.now rs ix c.args.count c.requires.few c.args.former.now c.args.changed.now in
     c.either_moved.ensures
@@ -59,11 +59,11 @@ returns-then-either_moved g c rs ix =
     let b = c.in-Intersection.b in
     let d = c.in-Intersection.d in
     let known : BodyIn c.args.count (Intersection b d) = rw c.in-Intersection.is at c.requires.known in
-    let flag = sym (flag-both g (goal.at.returns-then-either_moved g c).After-either_moved rs ix) ∙ c.if-either_moved.true in
+    let flag = sym (flag_both g (goal.at.returns-then-either_moved g c).After-either_moved rs ix) ∙ c.if-either_moved.true in
     let all = by_intersection m g.S.Scale.laws c.args.index.now rs ix c.args.count c.requires.few c.args.former.now c.args.place c.args.base _ _ b d known.0 known.1 (simp (c.head_of-first-in-Intersection.ensures, c.head_of-second.ensures) at c.offer_both.ensures) in
     rw c.in-Intersection.is (kept_whole m g.S.Scale.laws c.args.index.now rs ix c.args.count c.requires.few c.args.former.now c.args.place c.args.base _ _ c.args.fresh c.args.changed.now (Intersection b d) (λ x. (flag, tt)) all)
 
 pub returns-else-either_moved : goal.returns-else-either_moved
 returns-else-either_moved g c rs ix =
-    let flag = sym (flag-both g (goal.at.returns-else-either_moved g c).After-either_moved rs ix) ∙ c.if-either_moved.false in
+    let flag = sym (flag_both g (goal.at.returns-else-either_moved g c).After-either_moved rs ix) ∙ c.if-either_moved.false in
     rw c.in-Intersection.is (kept_none g.S.Scale.meaning g.S.Scale.laws c.args.index.now rs ix c.args.count c.requires.few c.args.former.now c.args.place c.args.base _ c.args.fresh c.args.changed.now (Intersection c.in-Intersection.b c.in-Intersection.d) (λ x. (flag, tt)))
