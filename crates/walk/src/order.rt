@@ -4,7 +4,7 @@ ghost use Rattle.walk.specs.Walk.{InNumber, opened, open_premise, Acyclic, Order
 use crate::reasons::{CellStep, Reasons};
 
 // Stands for the number of a cell that has none yet.
-pub const NO_NUMBER: u16 = 65_535;
+pub(crate) const NO_NUMBER: u16 = 65_535;
 
 // The cell, where it has no number yet.
 fn opened(cell: Option<u16>, number: &[u16]) -> Option<u16>
@@ -38,7 +38,7 @@ fn open_premise(step: CellStep, number: &[u16]) -> Option<u16>
 // Numbers the cells that the reasons lead to from the goal, premises first and goal last, and puts
 // them in that order. The stack has the cells whose premises are not all numbered, each a premise of
 // the one below it.
-pub fn put_in_order<G: Reasons>(
+pub(crate) fn put_in_order<G: Reasons>(
     reasons: &G,
     goal: u16,
     number: &mut [u16],
