@@ -1,47 +1,39 @@
--- Where a text is cut: the part that a cursor hands out next, and those that are left.
-use Rattle.std.proofs.Common.{◌≡◌, ℕ, zero, suc, ◌+◌, ◌<◌, ◌≤◌, List, [], ◌∷◌, length, get_or, take, drop, sym, refl, ap, ◌∙◌, arith}
-use Rattle.std.proofs.lemmas.List.{drop-drop, length-take-le, take_all}
-use Rattle.std.proofs.lemmas.Bool.{cond-true, cond-false, eq-eqb, ne_eqb}
-use Rattle.words.specs.Split.{split, onto, placed, Placed}
+-- A text cut at its first separator: the part that is handed out, and those that are left.
+use Rattle.std.proofs.Common.{◌≡◌, ℕ, ◌+◌, ◌<◌, Bool, true, false, cond, ltb, eqb, List, [], ◌∷◌, length, take, drop, Some, None, Option, arith, refl, sym, ap, ◌∙◌, subst, length-take-le}
+use Rattle.std.specs.List.{position, position_or_len}
+use Rattle.std.specs.Iterator.{MakesProgress, item_count}
+use Rattle.std.proofs.lemmas.List.Quantifiers.{position-Some}
+use Rattle.std.proofs.lemmas.List.Sums.{position_or_len_is, fails_before_first}
+use Rattle.std.proofs.lemmas.List.Splits.{slice_split_first, slice_split_none}
+use Rattle.std.proofs.lemmas.Option.{none-some}
+use Rattle.std.proofs.lemmas.Bool.{ltb-false}
+use Rattle.words.specs.declared.part.Part.{Part}
+use Rattle.words.specs.declared.part.Parts.{Parts}
+use Rattle.words.specs.Split.{split, placed}
+use Rattle.words.specs.Cursor.{told, todo}
 
-module _ (sep : ℕ) where
-  -- none of the first n bytes of s is a separator
-  abbrev pub Solid : List ℕ → ℕ → Type 0
-  Solid s n = (k : ℕ) → k < n → get_or s k 0 ≡ sep → ⊥
+module _ (sep byte : ℕ) (text : List ℕ) where
+  -- the first place of the separator
+  abbrev pub found : Option ℕ
+  found = position (λ b. eqb b sep) text
 
-  pub split_here : (s : List ℕ) (n : ℕ) → n < length s → Solid s n → get_or s n 0 ≡ sep → split sep s ≡ take n s ∷ split sep (drop (suc n) s)
-  split_here [] n lt nay is = absurd (omega arith)
-  split_here (b ∷ bs) zero lt nay is = cond-true _ _ _ (eq-eqb b sep is)
-  split_here (b ∷ bs) (suc n) lt nay is =
-      cond-false _ _ _ (ne_eqb b sep (nay 0 (omega arith)))
-      ∙ ap (onto b) (split_here bs n (omega arith) (λ k h. nay (suc k) (omega arith)) is)
+  -- the part before it, where what follows it is left
+  pub hands_first : (n : ℕ) → found ≡ Some n → (rest : List ℕ) → rest ≡ drop (n + 1) text → placed byte (split sep text) ≡ record { byte = byte; text = take n text } ∷ placed (byte + n + 1) (split sep rest)
+  hands_first n e rest is =
+      let at = position-Some (λ b. eqb b sep) text n 0 e in
+      let first = position_or_len_is (λ b. eqb b sep) text n 0 (omega (arith, at.0)) at.2 (λ _. at.1) in
+      let cut : split sep text ≡ take n text ∷ split sep (drop (n + 1) text) = subst (λ k. split sep text ≡ take k text ∷ split sep (drop (k + 1) text)) first (slice_split_first (λ b. eqb b sep) text 0 (omega (arith, at.0, first))) in
+      let long : byte + length (take n text) + 1 ≡ byte + n + 1 = omega (arith, length-take-le n text (omega (arith, at.0))) in
+      ap (placed byte) cut ∙ (λ i. record { byte = byte; text = take n text } ∷ placed (long i) (split sep (sym is i)))
 
-  pub split_none : (s : List ℕ) → Solid s (length s) → split sep s ≡ s ∷ []
-  split_none [] nay = refl
-  split_none (b ∷ bs) nay =
-      cond-false _ _ _ (ne_eqb b sep (nay 0 (omega arith))) ∙ ap (onto b) (split_none bs (λ k h. nay (suc k) (omega arith)))
+  -- the whole text, where there is none
+  pub hands_last : found ≡ None → placed byte (split sep text) ≡ record { byte = byte; text = text } ∷ []
+  hands_last e = ap (placed byte) (slice_split_none (λ b. eqb b sep) text (λ k d lt. fails_before_first (λ b. eqb b sep) text k d (before k lt (ltb (position_or_len (λ b. eqb b sep) text) (length text)) refl e)))
+    where
+      before : (k : ℕ) → k < length text → (t : Bool) → ltb (position_or_len (λ b. eqb b sep) text) (length text) ≡ t → cond t (Some (position_or_len (λ b. eqb b sep) text)) None ≡ None → k < position_or_len (λ b. eqb b sep) text
+      before k lt true e h = absurd (none-some _ (sym h))
+      before k lt false e h = omega (arith, ltb-false _ _ e)
 
-  -- the parts of what is left of a text at k
-  abbrev pub parts_at : List ℕ → ℕ → ℕ → List Placed
-  parts_at whole byte k = placed (byte + k) (split sep (drop k whole))
-
-  -- one part handed out: rest is what is left of the text at `at`, and text its first n bytes
-  module _ (whole rest text : List ℕ) (byte at n : ℕ) (left : rest ≡ drop at whole) (front : text ≡ take n rest) where
-    abbrev pub Hands : List Placed → Type 0
-    Hands after = parts_at whole byte at ≡ record { byte = byte + at; text = text } ∷ after
-
-    pub cut_here : n < length rest → Solid rest n → get_or rest n 0 ≡ sep → (after : List Placed) → after ≡ parts_at whole byte (at + n + 1) → Hands after
-    cut_here lt solid is after then =
-        let far : drop (suc n) rest ≡ drop (at + n + 1) whole =
-        ap (drop (suc n)) left ∙ drop-drop (suc n) at whole ∙ ap (λ i. drop i whole) (omega arith) in
-        let long : byte + at + length (take n rest) + 1 ≡ byte + (at + n + 1) = omega (arith, length-take-le n rest (omega arith)) in
-        ap (λ l. placed (byte + at) (split sep l)) (sym left)
-        ∙ ap (placed (byte + at)) (split_here rest n lt solid is)
-        ∙ (λ i. record { byte = byte + at; text = sym front i } ∷ placed (long i) (split sep (far i)))
-        ∙ ap (λ l. record { byte = byte + at; text = text } ∷ l) (sym then)
-
-    pub cut_last : length rest ≤ n → n ≤ length rest → Solid rest n → (after : List Placed) → after ≡ [] → Hands after
-    cut_last ge le solid after then =
-        ap (λ l. placed (byte + at) (split sep l)) (sym left)
-        ∙ ap (placed (byte + at)) (split_none rest (λ k h. solid k (omega arith)))
-        ∙ (λ i. record { byte = byte + at; text = sym (front ∙ take_all n rest ge) i } ∷ sym then i)
+-- a part handed out leaves one part less
+pub goes_on : (s t : Parts) (p : Part) → todo s ≡ told p ∷ todo t → MakesProgress (λ _. Unit {0}) (item_count todo) s (Some p) t
+goes_on s t p e = record { on = λ _. (tt, tt, omega (arith, ap length e)); keeps = tt; rests = λ _. tt }

@@ -1,16 +1,11 @@
 -- The parts of a text between single separators, where each starts, and the law of cutting and joining.
 -- A text is the list of its bytes.
-use Rattle.std.specs.Prelude.{◌≡◌, ℕ, ◌+◌, cond, List, [], ◌∷◌, ◌++◌, length, ◌==◌, ◌≢◌}
-
--- b in front of the first part
-abbrev pub onto : ℕ → List (List ℕ) → List (List ℕ)
-onto b [] = (b ∷ []) ∷ []
-onto b (w ∷ ws) = (b ∷ w) ∷ ws
+use Rattle.std.specs.Prelude.{◌≡◌, ℕ, ◌+◌, List, [], ◌∷◌, ◌++◌, length, ◌==◌, ◌≢◌}
+use Rattle.std.specs.List.{slice_split}
 
 -- the parts: each separator ends one, and the last is what follows, so that an empty text is one empty part
 abbrev pub split : ℕ → List ℕ → List (List ℕ)
-split sep [] = [] ∷ []
-split sep (b ∷ bs) = cond (b == sep) ([] ∷ split sep bs) (onto b (split sep bs))
+split sep bs = slice_split (λ b. b == sep) bs
 
 -- a part and the byte where it starts
 pub record Placed : Type 0 where

@@ -4,7 +4,6 @@
 
 mod integer;
 mod part;
-mod split;
 #[cfg(test)]
 mod tests;
 

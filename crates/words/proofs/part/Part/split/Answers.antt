@@ -1,6 +1,5 @@
-use Rattle.std.proofs.Common.{rules}
 use Rattle.words.proofs.Laws.{laws}
 use Rattle.words.proofs.part.Part.split.Goals as goal
 
-pub returns : goal.returns
-returns c = record { value = search rules; law = laws _ }
+pub returns-clause-law : goal.returns-clause-law
+returns-clause-law c = laws _
