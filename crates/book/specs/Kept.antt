@@ -2,6 +2,7 @@
 use Rattle.std.specs.Prelude.{◌≡◌, ℕ, cond, List, ◌∷◌, map, take, Some, None, Ok, Err, vec_items, Option, Result}
 use Rattle.std.specs.Str.{bytes_eq}
 use Rattle.credential.specs.Same.{Credential}
+use Rattle.book.specs.declared.refusal.Kind.{Kind}
 use Rattle.book.specs.declared.refusal.Kind.TheVariants as kind
 use Rattle.book.specs.declared.refusal.Enrolled.{Enrolled}
 use Rattle.book.specs.declared.refusal.Enrolled.TheVariants.{Entity, RoleName}
@@ -20,6 +21,11 @@ entities g = map spelled (vec_items g.entities)
 
 abbrev pub role_names : Register → List (List ℕ)
 role_names g = map spelled (vec_items g.role_names)
+
+-- the names of a kind
+abbrev pub names_of : Kind → Register → List (List ℕ)
+names_of kind.Entity g = entities g
+names_of kind.RoleName g = role_names g
 
 abbrev pub listed : Book → List Credential
 listed b = vec_items b.credentials

@@ -6,4 +6,5 @@ pub mod store;
 
 pub use refusal::{Enrolled, Kind, Refusal};
 pub use store::names::{is_entity, is_role_name};
+pub use store::number::NameNumber;
 pub use store::{Book, Register};

@@ -5,6 +5,7 @@ use credential::Credential;
 pub mod credentials;
 pub mod enrolment;
 pub mod names;
+pub mod number;
 
 pub const NAME_LENGTH: usize = 24;
 

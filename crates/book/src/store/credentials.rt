@@ -21,31 +21,19 @@ impl Register {
         self.entities.len()
     }
 
-    pub fn has_entity(&self, e: Entity) -> bool
-        ensures { result ≡ nat_lt e.0 (length (entities self.now)) }
-    {
-        (e.0 as usize) < self.entity_count()
-    }
-
-    fn has_role_name(&self, n: RoleName) -> bool
-        ensures { result ≡ nat_lt n.0 (length (role_names self.now)) }
-    {
-        (n.0 as usize) < self.role_names.len()
-    }
-
     pub fn has_role(&self, r: Role) -> bool
         ensures { result ≡ role_enrolled (length (entities self.now)) (length (role_names self.now)) r }
     {
-        self.has_entity(r.entity) && self.has_role_name(r.name)
+        self.has(r.entity) && self.has(r.name)
     }
 
     fn has_body<W: Copy>(&self, body: Body<W>) -> bool
         ensures { result ≡ body_enrolled (length (entities self.now)) (length (role_names self.now)) body }
     {
         match body {
-            Body::Member(x, _) => self.has_entity(x),
+            Body::Member(x, _) => self.has(x),
             Body::Delegation(b) => self.has_role(b),
-            Body::Link(b, t) => self.has_role(b) && self.has_role_name(t),
+            Body::Link(b, t) => self.has_role(b) && self.has(t),
             Body::Intersection(b, c) => self.has_role(b) && self.has_role(c),
         }
     }

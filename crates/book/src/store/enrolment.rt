@@ -1,13 +1,14 @@
 // The register: names are enrolled, found by their spelling and spelled by their number.
-ghost use Rattle.std.specs.Prelude.{◌≡◌, ◌<◌, ◌≤◌, [], map, length, IfSome, IfOk, vec_len, vec_capacity};
+ghost use Rattle.std.specs.Prelude.{◌≡◌, ◌<◌, ◌≤◌, [], map, length, IfSome, IfOk, vec_len, vec_capacity, nat_lt};
 ghost use Rattle.std.specs.List.{slice_get};
 ghost use Rattle.std.specs.Option.{option_map};
 ghost use Rattle.book.specs.declared.store.Book.{Book as AnyBook};
 ghost use Rattle.book.specs.Plain.{answer, next, enrol, among};
-ghost use Rattle.book.specs.Kept.{spelled, entities, role_names, plain, enrol_said, StandsAfter, name_number};
+ghost use Rattle.book.specs.Kept.{spelled, entities, role_names, plain, enrol_said, StandsAfter, name_number, names_of};
 ghost use Rattle.book.specs.Puts.{Puts};
 
 use super::names::{kind_of, place_of};
+use super::number::NameNumber;
 use super::*;
 use crate::refusal::{Enrolled, Kind, Refusal};
 use credential::{Entity, RoleName};
@@ -82,35 +83,36 @@ impl Register {
         }
     }
 
-    pub fn find_entity(&self, word: &[u8]) -> Option<Entity>
-        ensures { option_map (λ e. e.0) result ≡ name_number (entities self.now) word.now }
+    // The names of a kind, in order of enrolment.
+    pub(super) fn names(&self, kind: Kind) -> &[Name]
+        ensures value { map spelled result.now ≡ names_of kind self.now }
+        ensures few { length result.now ≤ 64 }
     {
-        match number_of(self.entities.as_slice(), word) {
-            Some(n) => Some(Entity(n)),
-            None => None,
+        match kind {
+            Kind::Entity => self.entities.as_slice(),
+            Kind::RoleName => self.role_names.as_slice(),
         }
     }
 
-    pub fn find_role_name(&self, word: &[u8]) -> Option<RoleName>
-        ensures { option_map (λ e. e.0) result ≡ name_number (role_names self.now) word.now }
+    // The number of the word among the names of its kind, if it is one of them.
+    pub fn find<N: NameNumber>(&self, word: &[u8]) -> Option<N>
+        ensures { option_map N.number result ≡ name_number (names_of N.kind self.now) word.now }
     {
-        match number_of(self.role_names.as_slice(), word) {
-            Some(n) => Some(RoleName(n)),
-            None => None,
-        }
+        number_of(self.names(N::kind()), word).map(|n| N::of(n))
     }
 
-    pub fn spell_entity(&self, e: Entity) -> Option<&[u8]>
-        ensures value { option_map (λ x. x.now) result ≡ slice_get (entities self.now) e.0 }
+    // How the name of this number is spelled.
+    pub fn spell<N: NameNumber>(&self, n: N) -> Option<&[u8]>
+        ensures value { option_map (λ x. x.now) result ≡ slice_get (names_of N.kind self.now) (N.number n) }
         ensures short { IfSome result (λ s. length s.now ≤ 24) }
     {
-        spelling_of(self.entities.as_slice(), e.0)
+        spelling_of(self.names(N::kind()), n.number())
     }
 
-    pub fn spell_role_name(&self, r: RoleName) -> Option<&[u8]>
-        ensures value { option_map (λ x. x.now) result ≡ slice_get (role_names self.now) r.0 }
-        ensures short { IfSome result (λ w. length w.now ≤ 24) }
+    // Whether a name of this number is enrolled.
+    pub fn has<N: NameNumber>(&self, n: N) -> bool
+        ensures { result ≡ nat_lt (N.number n) (length (names_of N.kind self.now)) }
     {
-        spelling_of(self.role_names.as_slice(), r.0)
+        (n.number() as usize) < self.names(N::kind()).len()
     }
 }
