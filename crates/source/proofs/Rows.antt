@@ -4,8 +4,7 @@ use Rattle.std.specs.List.{slice_get}
 use Rattle.std.specs.Option.{option_map}
 use Rattle.std.proofs.lemmas.Option.{slice_get_past}
 use Rattle.credential.specs.Same.{Credential}
-use Rattle.source.specs.declared.sources.Origin.{Origin}
-use Rattle.source.specs.Shows.{Shown, credential_at, origin_at, layer_from, joined, JoinsAssociate}
+use Rattle.source.specs.Shows.{Shown, layer_from, layer, joined, JoinsAssociate}
 
 module _ {X : Type 0} where
   nth_append_left : (xs ys : List X) (i : ℕ) → i < length xs → slice_get (xs ++ ys) i ≡ slice_get xs i
@@ -47,37 +46,25 @@ module _ {X : Type 0} where
 pub joins_associate : JoinsAssociate
 joins_associate xs ys zs = cuts_associate 65535 xs ys zs
 
--- what a join shows at a place, or a part f of it
-module _ {Y : Type 0} (f : Shown → Y) (xs ys : List Shown) (i : ℕ) where
-  pub join_past : 65535 ≤ i → None ≡ option_map f (slice_get (joined xs ys) i)
-  join_past h = sym (ap (option_map f) (slice_get_past (take 65535 (xs ++ ys)) i (rw length-take (omega arith))))
+-- what a join shows at a place
+module _ (xs ys : List Shown) (i : ℕ) where
+  pub join_past : 65535 ≤ i → slice_get (joined xs ys) i ≡ None
+  join_past h = slice_get_past (joined xs ys) i (rw length-take (omega arith))
 
-  pub join_first : i < 65535 → i < length xs → option_map f (slice_get xs i) ≡ option_map f (slice_get (joined xs ys) i)
-  join_first h k = ap (option_map f) (sym (nth_take 65535 (xs ++ ys) i h ∙ nth_append_left xs ys i k))
+  pub join_first : i < 65535 → i < length xs → slice_get (joined xs ys) i ≡ slice_get xs i
+  join_first h k = nth_take 65535 (xs ++ ys) i h ∙ nth_append_left xs ys i k
 
-  pub join_second : (n : ℕ) → n ≡ length xs → i < 65535 → n ≤ i → option_map f (slice_get ys (i - n)) ≡ option_map f (slice_get (joined xs ys) i)
-  join_second n e h k =
-      ap (λ m. option_map f (slice_get ys (i - m))) e ∙ ap (option_map f) (sym (nth_take 65535 (xs ++ ys) i h ∙ nth_append_right xs ys i (omega arith)))
+  pub join_second : i < 65535 → length xs ≤ i → slice_get (joined xs ys) i ≡ slice_get ys (i - length xs)
+  join_second h k = nth_take 65535 (xs ++ ys) i h ∙ nth_append_right xs ys i k
 
--- a layer shows at each place what stands there
+-- what a layer shows of a credential
+abbrev shown_as : ℕ → ℕ → Credential → Shown
+shown_as l n c = record { credential = c; origin = record { layer = l; place = n } }
 
-pub layer_credential : (l n : ℕ) (cs : List Credential) (i : ℕ) → slice_get cs i ≡ credential_at (layer_from l n cs) i
-layer_credential l n [] i = refl
-layer_credential l n (c ∷ cs) zero = refl
-layer_credential l n (c ∷ cs) (suc i) = layer_credential l (suc n) cs i
+layer_from_shows : (l n : ℕ) (cs : List Credential) (i : ℕ) → slice_get (layer_from l n cs) i ≡ option_map (shown_as l (n + i)) (slice_get cs i)
+layer_from_shows l n [] i = refl
+layer_from_shows l n (c ∷ cs) zero = ap (λ m. Some (shown_as l m c)) (omega arith)
+layer_from_shows l n (c ∷ cs) (suc i) = layer_from_shows l (suc n) cs i ∙ ap (λ m. option_map (shown_as l m) (slice_get cs i)) (omega arith)
 
-abbrev place_in : ℕ → ℕ → Origin
-place_in l n = record { layer = l; place = n }
-
-layer_origin_from : (l n : ℕ) (cs : List Credential) (i : ℕ) → i < length cs → origin_at (layer_from l n cs) i ≡ Some (place_in l (n + i))
-layer_origin_from l n [] i h = absurd (omega arith)
-layer_origin_from l n (c ∷ cs) zero h = ap (λ m. Some (place_in l m)) (omega arith)
-layer_origin_from l n (c ∷ cs) (suc i) h = layer_origin_from l (suc n) cs i (omega arith) ∙ ap (λ m. Some (place_in l m)) (omega arith)
-
-pub layer_origin : (l : ℕ) (cs : List Credential) (i : ℕ) → i < length cs → Some (record { layer = l; place = i }) ≡ origin_at (layer_from l 0 cs) i
-layer_origin l cs i h = ap (λ m. Some (place_in l m)) (omega arith) ∙ sym (layer_origin_from l 0 cs i h)
-
-pub layer_past : (l n : ℕ) (cs : List Credential) (i : ℕ) → length cs ≤ i → None ≡ origin_at (layer_from l n cs) i
-layer_past l n [] i h = refl
-layer_past l n (c ∷ cs) zero h = absurd (omega arith)
-layer_past l n (c ∷ cs) (suc i) h = layer_past l (suc n) cs i (omega arith)
+pub layer_shows : (l : ℕ) (cs : List Credential) (i : ℕ) → slice_get (layer l cs) i ≡ option_map (shown_as l i) (slice_get cs i)
+layer_shows l cs i = layer_from_shows l 0 cs i ∙ ap (λ m. option_map (shown_as l m) (slice_get cs i)) (omega arith)

@@ -4,10 +4,7 @@ use Rattle.std.specs.Option.{option_map}
 use Rattle.std.specs.List.{slice_get}
 use Rattle.credential.specs.Same.{Credential}
 use Rattle.source.specs.declared.sources.Origin.{Origin}
-
-pub record Shown : Type 0 where
-  pub credential : Credential
-  pub origin : Origin
+pub use Rattle.source.specs.declared.sources.Shown.{Shown}
 
 -- the credentials that are shown, their origins aside
 abbrev pub stated : List Shown → List Credential

@@ -3,8 +3,7 @@ ghost use Rattle.std.specs.Prelude.{◌≡◌, []};
 ghost use Rattle.source.specs.Shows.{joined, JoinsAssociate};
 ghost use Rattle.source.specs.Short.{cut_short, none_short};
 
-use crate::sources::{Origin, Source};
-use credential::Credential;
+use crate::sources::{Shown, Source};
 
 // No source shows more than this.
 const MOST: usize = 65_535;
@@ -40,27 +39,15 @@ impl<A: Source, B: Source> Source for Join<A, B> {
         (self.first.count() + self.second.count()).min(MOST)
     }
 
-    fn credential(&self, place: usize) -> Option<Credential> {
+    fn shown(&self, place: usize) -> Option<Shown> {
         if place >= MOST {
             return None;
         }
         let n = self.first.count();
         if place < n {
-            self.first.credential(place)
+            self.first.shown(place)
         } else {
-            self.second.credential(place - n)
-        }
-    }
-
-    fn origin(&self, place: usize) -> Option<Origin> {
-        if place >= MOST {
-            return None;
-        }
-        let n = self.first.count();
-        if place < n {
-            self.first.origin(place)
-        } else {
-            self.second.origin(place - n)
+            self.second.shown(place - n)
         }
     }
 }
@@ -74,12 +61,8 @@ impl<'a, T: Source> Source for &'a T {
         T::count(*self)
     }
 
-    fn credential(&self, place: usize) -> Option<Credential> {
-        T::credential(*self, place)
-    }
-
-    fn origin(&self, place: usize) -> Option<Origin> {
-        T::origin(*self, place)
+    fn shown(&self, place: usize) -> Option<Shown> {
+        T::shown(*self, place)
     }
 }
 
@@ -92,11 +75,7 @@ impl Source for Empty {
         0
     }
 
-    fn credential(&self, _place: usize) -> Option<Credential> {
-        None
-    }
-
-    fn origin(&self, _place: usize) -> Option<Origin> {
+    fn shown(&self, _place: usize) -> Option<Shown> {
         None
     }
 }

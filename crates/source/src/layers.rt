@@ -2,12 +2,12 @@
 ghost use Rattle.std.specs.Prelude.{◌≡◌, ◌≤◌, length};
 ghost use Rattle.std.specs.List.{slice_get};
 ghost use Rattle.book.specs.Kept.{listed};
-ghost use Rattle.source.specs.Shows.{origin_at, layer};
+ghost use Rattle.source.specs.Shows.{layer};
 ghost use Rattle.source.specs.Short.{book_short, slip_short};
 ghost use Rattle.source.specs.Slips.{presented};
 
 use crate::slips::Slip;
-use crate::sources::{Origin, Source};
+use crate::sources::{Origin, Shown, Source};
 use book::Book;
 use credential::Credential;
 
@@ -17,24 +17,16 @@ const BOOK: u8 = 1;
 // The layer of the slip.
 const SLIP: u8 = 2;
 
-fn credential_in(list: &[Credential], place: usize) -> Option<Credential>
-    ensures { result ≡ slice_get list.now place }
-{
-    list.get(place).copied()
-}
-
-fn origin_in(number: u8, list: &[Credential], place: usize) -> Option<Origin>
+fn shown_in(number: u8, list: &[Credential], place: usize) -> Option<Shown>
     requires { length list.now ≤ 65535 }
-    ensures { result ≡ origin_at (layer number list.now) place }
+    ensures { result ≡ slice_get (layer number list.now) place }
 {
-    if place < list.len() {
-        Some(Origin {
-            layer: number,
-            place: place as u16,
-        })
-    } else {
-        None
-    }
+    let credential = *list.get(place)?;
+    let origin = Origin {
+        layer: number,
+        place: place as u16,
+    };
+    Some(Shown { credential, origin })
 }
 
 impl Source for Book {
@@ -46,12 +38,8 @@ impl Source for Book {
         self.credentials().len()
     }
 
-    fn credential(&self, place: usize) -> Option<Credential> {
-        credential_in(self.credentials(), place)
-    }
-
-    fn origin(&self, place: usize) -> Option<Origin> {
-        origin_in(BOOK, self.credentials(), place)
+    fn shown(&self, place: usize) -> Option<Shown> {
+        shown_in(BOOK, self.credentials(), place)
     }
 }
 
@@ -64,11 +52,7 @@ impl Source for Slip {
         self.credentials().len()
     }
 
-    fn credential(&self, place: usize) -> Option<Credential> {
-        credential_in(self.credentials(), place)
-    }
-
-    fn origin(&self, place: usize) -> Option<Origin> {
-        origin_in(SLIP, self.credentials(), place)
+    fn shown(&self, place: usize) -> Option<Shown> {
+        shown_in(SLIP, self.credentials(), place)
     }
 }

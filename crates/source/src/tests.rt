@@ -67,3 +67,18 @@ fn a_join_goes_on_after_its_first(rt: HostRuntime) -> Result<(), Fail> {
     assert_eq!(rt; pile.origin(3), None);
     Ok(())
 }
+
+#[test]
+fn the_credentials_come_in_order_of_place(rt: HostRuntime) -> Result<(), Fail> {
+    let book = book_of_two(rt.alloc())?;
+    let mut slip = Slip::new(rt.alloc())?;
+    let _ = slip.present(member(7))?;
+    let pile = Join::new(&book, &slip);
+    let mut all = pile.iter();
+    assert_eq!(rt; all.next(), Some(member(0)));
+    assert_eq!(rt; all.next(), Some(member(1)));
+    assert_eq!(rt; all.next(), Some(member(7)));
+    assert_eq!(rt; all.next(), None);
+    assert_eq!(rt; pile.iter().count(), 3);
+    Ok(())
+}
