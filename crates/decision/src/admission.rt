@@ -4,9 +4,9 @@ ghost use Rattle.book.specs.Kept.{entities, role_names};
 ghost use Rattle.heads.specs.Index.{Indexed};
 ghost use Rattle.decision.specs.Conditions.{goal_enrolled, Admission};
 
+use crate::request::Request;
 use crate::verdict::DecideRefusal;
 use book::Register;
-use credential::Record;
 use heads::admit;
 use rules::Membership;
 use scale::Scale;
@@ -25,17 +25,16 @@ fn is_enrolled(register: &Register, goal: Membership) -> bool
 pub(crate) fn fit<R: Source, S: Scale>(
     register: &Register,
     source: &R,
-    goal: Membership,
-    threshold: Record,
+    request: Request,
     index: &mut [u16],
 ) -> Result<(S, usize), DecideRefusal>
     requires { Indexed index.old [] }
-    ensures { Admission S.Scale.meaning (length (entities register.now)) (length (role_names register.now)) goal threshold (R.Source.shows source.now) index.new result }
+    ensures { Admission S.Scale.meaning (length (entities register.now)) (length (role_names register.now)) request.goal request.threshold (R.Source.shows source.now) index.new result }
 {
-    if !is_enrolled(register, goal) {
+    if !is_enrolled(register, request.goal) {
         return Err(DecideRefusal::GoalNotEnrolled);
     }
-    let Some(asked) = S::read_threshold(threshold) else {
+    let Some(asked) = S::read_threshold(request.threshold) else {
         return Err(DecideRefusal::UnreadableThreshold);
     };
     if source.count() > MOST_CREDENTIALS {

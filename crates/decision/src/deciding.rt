@@ -7,12 +7,12 @@ ghost use Rattle.decision.specs.Conditions.{lists};
 ghost use Rattle.decision.specs.Decided.{Decided};
 
 use crate::admission::fit;
+use crate::request::Request;
 use crate::ruling::rule;
 use crate::verdict::{DecideRefusal, Verdict, Work};
 use book::{Book, Register};
-use credential::Record;
 use heads::{HEAD_SLOTS, NO_HEAD};
-use rules::{Membership, Reason, Step};
+use rules::{Reason, Step};
 use scale::Scale;
 use source::{Join, Source};
 
@@ -26,17 +26,16 @@ fn is_short(former: usize, latest: usize, reasons: usize, steps: usize, need: us
 fn decide_in<R: Source, S: Scale>(
     register: &Register,
     source: &R,
-    goal: Membership,
-    threshold: Record,
+    request: Request,
     former: &mut [Option<S>],
     latest: &mut [Option<S>],
     reasons: &mut [Reason],
     steps: &mut [Step],
 ) -> Result<Verdict<S>, DecideRefusal>
-    ensures { Decided S.Scale.meaning (length (entities register.now)) (length (role_names register.now)) (R.Source.shows source.now) goal threshold (lists former.old latest.old reasons.old steps.old) (lists former.new latest.new reasons.new steps.new) result }
+    ensures { Decided S.Scale.meaning (length (entities register.now)) (length (role_names register.now)) (R.Source.shows source.now) request.goal request.threshold (lists former.old latest.old reasons.old steps.old) (lists former.new latest.new reasons.new steps.new) result }
 {
     let mut index = [NO_HEAD; HEAD_SLOTS];
-    let (asked, heads) = fit::<R, S>(register, source, goal, threshold, &mut index)?;
+    let (asked, heads) = fit::<R, S>(register, source, request, &mut index)?;
     let entities = register.entity_count();
     let need = heads * entities;
     if is_short(former.len(), latest.len(), reasons.len(), steps.len(), need) {
@@ -47,7 +46,7 @@ fn decide_in<R: Source, S: Scale>(
         &index,
         heads,
         entities,
-        goal,
+        request.goal,
         asked,
         &mut former[0..need],
         &mut latest[0..need],
@@ -60,11 +59,10 @@ fn decide_in<R: Source, S: Scale>(
 pub fn decide<R: Source, S: Scale>(
     register: &Register,
     source: &R,
-    goal: Membership,
-    threshold: Record,
+    request: Request,
     work: Work<'_, S>,
 ) -> Result<Verdict<S>, DecideRefusal>
-    ensures { Decided S.Scale.meaning (length (entities register.now)) (length (role_names register.now)) (R.Source.shows source.now) goal threshold (lists work.entry.former.now work.entry.latest.now work.entry.reasons.now work.entry.steps.now) (lists work.exit.0.now work.exit.1.0.now work.exit.1.1.0.now work.exit.1.1.1.0.now) result }
+    ensures { Decided S.Scale.meaning (length (entities register.now)) (length (role_names register.now)) (R.Source.shows source.now) request.goal request.threshold (lists work.entry.former.now work.entry.latest.now work.entry.reasons.now work.entry.steps.now) (lists work.exit.0.now work.exit.1.0.now work.exit.1.1.0.now work.exit.1.1.1.0.now) result }
 {
     let Work {
         former,
@@ -72,9 +70,7 @@ pub fn decide<R: Source, S: Scale>(
         reasons,
         steps,
     } = work;
-    decide_in(
-        register, source, goal, threshold, former, latest, reasons, steps,
-    )
+    decide_in(register, source, request, former, latest, reasons, steps)
 }
 
 // Decide over the register and its book, with a source before the book and one after it: whatever calls
@@ -84,12 +80,11 @@ pub fn decide_with_book<A: Source + Copy, B: Source + Copy, S: Scale>(
     before: A,
     book: &Book,
     after: B,
-    goal: Membership,
-    threshold: Record,
+    request: Request,
     work: Work<'_, S>,
 ) -> Result<Verdict<S>, DecideRefusal>
-    ensures decided { Decided S.Scale.meaning (length (entities register.now)) (length (role_names register.now)) (joined (A.Source.shows before) (joined (layer 1 (listed book.now)) (B.Source.shows after))) goal threshold (lists work.entry.former.now work.entry.latest.now work.entry.reasons.now work.entry.steps.now) (lists work.exit.0.now work.exit.1.0.now work.exit.1.1.0.now work.exit.1.1.1.0.now) result }
-    ensures over_uses { (past : List Call) → plain register.now book.now ≡ fed past → Decided S.Scale.meaning (length (fed past).entities) (length (fed past).role_names) (joined (A.Source.shows before) (joined (layer 1 (fed past).credentials) (B.Source.shows after))) goal threshold (lists work.entry.former.now work.entry.latest.now work.entry.reasons.now work.entry.steps.now) (lists work.exit.0.now work.exit.1.0.now work.exit.1.1.0.now work.exit.1.1.1.0.now) result }
+    ensures decided { Decided S.Scale.meaning (length (entities register.now)) (length (role_names register.now)) (joined (A.Source.shows before) (joined (layer 1 (listed book.now)) (B.Source.shows after))) request.goal request.threshold (lists work.entry.former.now work.entry.latest.now work.entry.reasons.now work.entry.steps.now) (lists work.exit.0.now work.exit.1.0.now work.exit.1.1.0.now work.exit.1.1.1.0.now) result }
+    ensures over_uses { (past : List Call) → plain register.now book.now ≡ fed past → Decided S.Scale.meaning (length (fed past).entities) (length (fed past).role_names) (joined (A.Source.shows before) (joined (layer 1 (fed past).credentials) (B.Source.shows after))) request.goal request.threshold (lists work.entry.former.now work.entry.latest.now work.entry.reasons.now work.entry.steps.now) (lists work.exit.0.now work.exit.1.0.now work.exit.1.1.0.now work.exit.1.1.1.0.now) result }
 {
     let Work {
         former,
@@ -98,7 +93,5 @@ pub fn decide_with_book<A: Source + Copy, B: Source + Copy, S: Scale>(
         steps,
     } = work;
     let source = Join::new(before, Join::new(book, after));
-    decide_in(
-        register, &source, goal, threshold, former, latest, reasons, steps,
-    )
+    decide_in(register, &source, request, former, latest, reasons, steps)
 }

@@ -3,8 +3,10 @@
 
 pub mod admission;
 pub mod deciding;
+pub mod request;
 mod ruling;
 pub mod verdict;
 
 pub use deciding::{decide, decide_with_book};
+pub use request::Request;
 pub use verdict::{DecideRefusal, Verdict, Work};

@@ -14,6 +14,7 @@ use Rattle.book.specs.Plain.{Plain}
 use Rattle.source.specs.Shows.{Shown, layer, joined}
 use Rattle.ruling.specs.declared.asking.ScaleWord.{ScaleWord}
 use Rattle.ruling.specs.declared.asking.ScaleWord.TheVariants as word
+use Rattle.decision.specs.declared.request.Request.{Request}
 use Rattle.decision.specs.declared.verdict.Verdict.{Verdict}
 use Rattle.decision.specs.declared.verdict.Verdict.TheVariants.{Granted, Denied}
 use Rattle.decision.specs.declared.verdict.DecideRefusal.{DecideRefusal}
@@ -41,12 +42,12 @@ abbrev pub book_and_slip : Plain → List Credential → List Shown
 book_and_slip p slip = joined (layer 1 p.credentials) (layer 2 slip)
 
 -- r is what decide answers on a scale, with 2,048 cells lent, its weights told
-pub record RuledOn {S : Type 0} (M : Meaning S) (tell : S → Weight) (p : Plain) (slip : List Credential) (a : Asked) (r : Result (Verdict Weight) DecideRefusal) : Type 0 where
+pub record RuledOn {S : Type 0} (M : Meaning S) (tell : S → Weight) (p : Plain) (slip : List Credential) (q : Request) (r : Result (Verdict Weight) DecideRefusal) : Type 0 where
   pub answer : Result (Verdict S) DecideRefusal
   pub before : Lists S
   pub after : Lists S
   pub lent : Lent 2048 before
-  pub decided : Decided M (length p.entities) (length p.role_names) (book_and_slip p slip) a.goal a.threshold before after answer
+  pub decided : Decided M (length p.entities) (length p.role_names) (book_and_slip p slip) q.goal q.threshold before after answer
   pub told_as : r ≡ ruling_by tell answer
 
 abbrev pub bytes : Ceiling 2147483647 → Weight
@@ -59,11 +60,11 @@ abbrev pub points_and_bytes : Pair (Distance 1000000) (Ceiling 2147483647) → W
 points_and_bytes w = told.Nearest w.first.points w.second.bytes
 
 -- the scale that a word names
-abbrev pub RulesBy : ScaleWord → Plain → List Credential → Asked → Result (Verdict Weight) DecideRefusal → Type 0
-RulesBy word.Yes p slip a r = RuledOn yes_meaning (λ _. told.Yes) p slip a r
-RulesBy word.Ceiling p slip a r = RuledOn (ceiling_meaning 2147483647) bytes p slip a r
-RulesBy word.Distance p slip a r = RuledOn (distance_meaning 1000000) points p slip a r
-RulesBy word.Nearest p slip a r = RuledOn (pair_meaning (distance_meaning 1000000) (ceiling_meaning 2147483647)) points_and_bytes p slip a r
+abbrev pub RulesBy : ScaleWord → Plain → List Credential → Request → Result (Verdict Weight) DecideRefusal → Type 0
+RulesBy word.Yes p slip q r = RuledOn yes_meaning (λ _. told.Yes) p slip q r
+RulesBy word.Ceiling p slip q r = RuledOn (ceiling_meaning 2147483647) bytes p slip q r
+RulesBy word.Distance p slip q r = RuledOn (distance_meaning 1000000) points p slip q r
+RulesBy word.Nearest p slip q r = RuledOn (pair_meaning (distance_meaning 1000000) (ceiling_meaning 2147483647)) points_and_bytes p slip q r
 
 abbrev pub Rules : Plain → List Credential → Asked → Result (Verdict Weight) DecideRefusal → Type 0
-Rules p slip a r = RulesBy a.scale p slip a r
+Rules p slip a r = RulesBy a.scale p slip a.request r

@@ -6,9 +6,9 @@ ghost use Rattle.ruling.specs.Rulings.{verdict_by, RuledOn, Rules};
 
 use crate::weights::{ToldScale, Weight};
 use book::{Book, Register};
-use credential::{Entity, Record};
-use decision::{DecideRefusal, Verdict, Work, decide_with_book};
-use rules::{Membership, Reason, Step};
+use credential::Entity;
+use decision::{DecideRefusal, Request, Verdict, Work, decide_with_book};
+use rules::{Reason, Step};
 use scale::yes::Yes;
 use scale::{Ceilings, Distances, Nearest};
 use source::{Empty, Slip};
@@ -16,6 +16,7 @@ use source::{Empty, Slip};
 // How many cells `decide_asked` lends.
 pub const CELLS: usize = 2048;
 
+// What the lists hold before they are written.
 const NO_ENTITY: Entity = Entity(0);
 
 const NO_REASON: Reason = Reason {
@@ -40,12 +41,11 @@ pub enum ScaleWord {
     Nearest,
 }
 
-// What is asked: a scale, a goal and a threshold, by numbers.
+// What is asked, by numbers, and on which scale.
 #[derive(Clone, Copy)]
 pub struct Asked {
     pub scale: ScaleWord,
-    pub goal: Membership,
-    pub threshold: Record,
+    pub request: Request,
 }
 
 fn told<S: ToldScale>(verdict: Verdict<S>) -> Verdict<Weight>
@@ -61,29 +61,26 @@ fn told<S: ToldScale>(verdict: Verdict<S>) -> Verdict<Weight>
             steps,
             rounds,
         },
-        Verdict::Denied {
-            best: Some(weight),
-            rounds,
-        } => Verdict::Denied {
-            best: Some(weight.tell()),
+        Verdict::Denied { best, rounds } => Verdict::Denied {
+            best: best.map(|weight| weight.tell()),
             rounds,
         },
-        Verdict::Denied { best: None, rounds } => Verdict::Denied { best: None, rounds },
     }
 }
 
-// The weight lists come from where the size of a weight is known.
+// Decides on the scale S, and tells the weights. The weight lists come from where the size of a weight is
+// known.
 fn decide_on<S: ToldScale>(
     register: &Register,
     book: &Book,
     slip: &Slip,
-    asked: Asked,
+    request: Request,
     former: &mut [Option<S>],
     latest: &mut [Option<S>],
 ) -> Result<Verdict<Weight>, DecideRefusal>
     requires former { length former.old ≡ 2048 }
     requires latest { length latest.old ≡ 2048 }
-    ensures { RuledOn S.Scale.meaning S.ToldScale.tells (plain register.now book.now) (presented slip.now) asked result }
+    ensures { RuledOn S.Scale.meaning S.ToldScale.tells (plain register.now book.now) (presented slip.now) request result }
 {
     let mut reasons = [NO_REASON; CELLS];
     let mut steps = [NO_STEP; CELLS];
@@ -93,15 +90,7 @@ fn decide_on<S: ToldScale>(
         reasons: &mut reasons,
         steps: &mut steps,
     };
-    let verdict = decide_with_book(
-        register,
-        Empty,
-        book,
-        slip,
-        asked.goal,
-        asked.threshold,
-        work,
-    )?;
+    let verdict = decide_with_book(register, Empty, book, slip, request, work)?;
     Ok(told(verdict))
 }
 
@@ -114,26 +103,24 @@ pub fn decide_asked(
 ) -> Result<Verdict<Weight>, DecideRefusal>
     ensures { Rules (plain register.now book.now) (presented slip.now) asked result }
 {
+    macro_rules! decided_on {
+        ($scale:ty) => {{
+            let mut former = [None::<$scale>; CELLS];
+            let mut latest = [None::<$scale>; CELLS];
+            decide_on(
+                register,
+                book,
+                slip,
+                asked.request,
+                &mut former,
+                &mut latest,
+            )
+        }};
+    }
     match asked.scale {
-        ScaleWord::Yes => {
-            let mut former = [None::<Yes>; CELLS];
-            let mut latest = [None::<Yes>; CELLS];
-            decide_on(register, book, slip, asked, &mut former, &mut latest)
-        }
-        ScaleWord::Ceiling => {
-            let mut former = [None::<Ceilings>; CELLS];
-            let mut latest = [None::<Ceilings>; CELLS];
-            decide_on(register, book, slip, asked, &mut former, &mut latest)
-        }
-        ScaleWord::Distance => {
-            let mut former = [None::<Distances>; CELLS];
-            let mut latest = [None::<Distances>; CELLS];
-            decide_on(register, book, slip, asked, &mut former, &mut latest)
-        }
-        ScaleWord::Nearest => {
-            let mut former = [None::<Nearest>; CELLS];
-            let mut latest = [None::<Nearest>; CELLS];
-            decide_on(register, book, slip, asked, &mut former, &mut latest)
-        }
+        ScaleWord::Yes => decided_on!(Yes),
+        ScaleWord::Ceiling => decided_on!(Ceilings),
+        ScaleWord::Distance => decided_on!(Distances),
+        ScaleWord::Nearest => decided_on!(Nearest),
     }
 }

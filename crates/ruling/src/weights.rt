@@ -16,7 +16,8 @@ pub enum Weight {
     Nearest { distance: u32, ceiling: u32 },
 }
 
-// A scale whose weights are told.
+// A scale whose weights are told. A method and no `From`: clauses name the function of weights, for which
+// `From` has no word.
 pub trait ToldScale: Scale {
     ghost tells: { Self → Weight };
 

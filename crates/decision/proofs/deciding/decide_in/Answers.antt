@@ -45,7 +45,7 @@ rule-requires g c =
       short = omega (arith, length_stated xs, f.few);
       indexed = f.indexed;
       many = f.many_heads;
-      role = subst (λ n. RoleIn n c.args.goal.role) is (role_in g.S.Scale.meaning E R (few_role_names c.args.register.now) c.args.goal.role goal.0);
+      role = subst (λ n. RoleIn n c.args.request.goal.role) is (role_in g.S.Scale.meaning E R (few_role_names c.args.register.now) c.args.request.goal.role goal.0);
       member = omega (arith, is, ltb-true _ _ goal.1);
       former_long = search rules;
       latest_long = search rules;
@@ -62,8 +62,8 @@ returns g c =
     let many = cells g at in
     let need = c.in_ok-asked.heads * c.entity_count-entities.result in
     let cells_left = lists c.rule.new.former c.rule.new.latest c.rule.new.reasons c.rule.new.steps in
-    let ruled : RuledCells M E (stated xs) c.args.goal c.in_ok-asked.asked c.args.steps.now cells_left c.rule.result = subst (λ n. RuledCells M n (stated xs) c.args.goal c.in_ok-asked.asked c.args.steps.now cells_left c.rule.result) c.entity_count-entities.ensures.value c.rule.ensures in
-    decided M E (length (role_names c.args.register.now)) xs c.args.goal c.args.threshold (lists c.args.former.now c.args.latest.now c.args.reasons.now c.args.steps.now) _ c.rule.result c.in_ok-asked.asked
+    let ruled : RuledCells M E (stated xs) c.args.request.goal c.in_ok-asked.asked c.args.steps.now cells_left c.rule.result = subst (λ n. RuledCells M n (stated xs) c.args.request.goal c.in_ok-asked.asked c.args.steps.now cells_left c.rule.result) c.entity_count-entities.ensures.value c.rule.ensures in
+    decided M E (length (role_names c.args.register.now)) xs c.args.request.goal c.args.request.threshold (lists c.args.former.now c.args.latest.now c.args.reasons.now c.args.steps.now) _ c.rule.result c.in_ok-asked.asked
     c.in_ok-asked.ensures.0
     (c.if-is_short.ensures ∙ ap (short (lists c.args.former.now c.args.latest.now c.args.reasons.now c.args.steps.now)) many)
     c.in_ok-asked.ensures.1.asks
