@@ -1,2 +1,2 @@
 pub mod Again
-pub mod Chain
+pub mod Short

@@ -28,13 +28,14 @@ pub fn write(
         return Err(WriteRefusal::NotEnrolled);
     };
     let draft = spell(sentence);
-    place(draft.text(), buffer)
+    place(draft.as_slice(), buffer)
 }
 
 // Copies the text to the start of the buffer, if it has room.
 fn place(text: &[u8], buffer: &mut [u8]) -> Result<usize, WriteRefusal>
     ensures answers { said result ≡ room_answer text.now buffer.old }
     ensures leaves { buffer.new ≡ unless_refused (said result) buffer.old (over text.now buffer.old) }
+    ensures holds { IfOk result (λ n. take n buffer.new ≡ text.now) }
     ensures within { IfOk result (λ n. n ≤ length buffer.new) }
 {
     let len = text.len();

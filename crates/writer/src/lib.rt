@@ -3,7 +3,6 @@
 #![tactic(auto)]
 
 mod call;
-mod draft;
 mod names;
 mod refusal;
 mod spelling;
@@ -11,5 +10,5 @@ mod spelling;
 mod tests;
 
 pub use call::write;
-pub use draft::CAPACITY;
 pub use refusal::WriteRefusal;
+pub use spelling::CAPACITY;

@@ -1,23 +1,16 @@
-use Rattle.std.proofs.Common.{◌≡◌, rules}
-use Rattle.book.specs.declared.store.Book.{Book}
+use Rattle.std.proofs.Common.{◌≡◌, true, take, rules, ◌∙◌}
+use Rattle.std.proofs.lemmas.Result.{IfOk-weaker}
+use Rattle.book.specs.Plain.{enrolled}
 use Rattle.book.specs.Kept.{plain}
-use Rattle.writer.specs.Written.{said, answer, after}
-use Rattle.writer.proofs.Again.{holds, read_again, short_text}
+use Rattle.writer.specs.Written.{text, ReadAgain}
+use Rattle.writer.proofs.Again.{read_again}
 use Rattle.writer.proofs.call.write.Goals as goal
 
-pub returns : goal.returns
-returns c =
-    let g = c.args.register.now in
+pub returns-clause-read_back : goal.returns-clause-read_back
+returns-clause-read_back c = λ b.
+    let p = plain c.args.register.now b in
     let credential = c.args.credential.now in
-    let old = c.args.buffer.now in
     let new = c.place.new.buffer in
-    let answers : (b : Book) → said c.place.result ≡ answer (plain g b) credential old = search rules in
-    let leaves : (b : Book) → new ≡ after (plain g b) credential old = search rules in
-    record {
-      answers = answers;
-      leaves = leaves;
-      holds = λ b. holds (plain g b) credential old new (leaves b) c.place.result (answers b);
-      within = c.place.ensures.within;
-      short = λ b. short_text c.spell-draft.result _ _ _ c.spell-draft.ensures c.in-Some.ensures.value;
-      read_back = λ b. read_again (plain g b) credential old new (leaves b) c.in-Some.ensures.numbers c.place.result (answers b);
-    }
+    let known : enrolled p credential ≡ true = search rules in
+    let is : c.as_slice.result.now ≡ text p credential = search rules in
+    IfOk-weaker c.place.result (λ n. take n new ≡ c.as_slice.result.now) (λ n. ReadAgain p credential (take n new)) (λ n put. read_again p credential (take n new) c.in-Some.ensures.numbers known (put ∙ is)) c.place.ensures.holds

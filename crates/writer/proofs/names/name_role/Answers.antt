@@ -8,5 +8,5 @@ returns-in_err-entity c = search (rules, slice_get-get_or)
 pub returns-in_err-name : goal.returns-in_err-name
 returns-in_err-name c = search (rules, slice_get-get_or)
 
-pub returns : goal.returns
-returns c = search (rules, slice_get-get_or, slice_get_past)
+pub returns-clause-value : goal.returns-clause-value
+returns-clause-value c = search (rules, slice_get-get_or, slice_get_past)
