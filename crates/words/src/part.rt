@@ -45,6 +45,7 @@ impl<'a> Parts<'a> {
     ghost use Rattle.words.specs.Cursor.{todo, none};
 
     // Whether all parts are handed out.
+    #[tactic(auto, using(crate::proofs::Left::none_of))]
     pub fn is_empty(&self) -> bool
         ensures { result ≡ none (todo self.now) }
     {
