@@ -1,5 +1,5 @@
 -- A register and a book as the plain book, and their answers by number.
-use Rattle.std.specs.Prelude.{◌≡◌, ℕ, cond, List, ◌∷◌, map, take, Some, None, Ok, Err, vec_items, Option, Result}
+use Rattle.std.specs.Prelude.{◌≡◌, ℕ, List, ◌∷◌, Ok, Err, vec_items, Option, Result}
 use Rattle.std.specs.Str.{bytes_eq}
 use Rattle.credential.specs.Same.{Credential}
 use Rattle.book.specs.declared.refusal.Kind.{Kind}
@@ -8,19 +8,15 @@ use Rattle.book.specs.declared.refusal.Enrolled.{Enrolled}
 use Rattle.book.specs.declared.refusal.Enrolled.TheVariants.{Entity, RoleName}
 use Rattle.book.specs.declared.refusal.Refusal.{Refusal}
 use Rattle.book.specs.declared.refusal.Refusal.TheVariants.{MalformedName, AlreadyEnrolled, RegisterFull, NotEnrolled, WeightOutOfRange, AlreadyInForce, BookFull, NotInForce}
-use Rattle.book.specs.declared.store.Name.{Name}
 use Rattle.book.specs.declared.store.Register.{Register}
 use Rattle.book.specs.declared.store.Book.{Book}
-use Rattle.book.specs.Plain.{Plain, Call, Answer, numbered, at_place, refused, first, among, fed}
-
-abbrev pub spelled : Name → List ℕ
-spelled n = take n.len n.bytes
+use Rattle.book.specs.Plain.{Plain, Call, Answer, numbered, at_place, refused, place, fed}
 
 abbrev pub entities : Register → List (List ℕ)
-entities g = map spelled (vec_items g.entities)
+entities g = vec_items g.entities.names
 
 abbrev pub role_names : Register → List (List ℕ)
-role_names g = map spelled (vec_items g.role_names)
+role_names g = vec_items g.role_names.names
 
 -- the names of a kind
 abbrev pub names_of : Kind → Register → List (List ℕ)
@@ -59,4 +55,4 @@ StandsAfter before call after = (past : List Call) → before ≡ fed past → a
 
 -- the number of a name, if it is enrolled
 abbrev pub name_number : List (List ℕ) → List ℕ → Option ℕ
-name_number ws w = cond (among (bytes_eq w) ws) (Some (first (bytes_eq w) ws)) None
+name_number ws w = place (bytes_eq w) ws

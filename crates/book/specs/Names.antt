@@ -1,5 +1,6 @@
 -- What a name is.
-use Rattle.std.specs.Prelude.{ℕ, Bool, true, cond, ◌&&◌, ◌||◌, List, [], ◌∷◌, length, Some, None, Option, ◌==◌, nat_le, nat_lt, slice_index}
+use Rattle.std.specs.Prelude.{ℕ, Bool, cond, ◌&&◌, ◌||◌, List, length, Some, None, Option, ◌==◌, nat_le, nat_lt, slice_index}
+use Rattle.std.specs.List.{list_all}
 use Rattle.std.specs.Char.{is_ascii_alphanumeric, is_ascii_uppercase, is_ascii_lowercase}
 use Rattle.book.specs.declared.refusal.Kind.{Kind}
 use Rattle.book.specs.declared.refusal.Kind.TheVariants.{Entity, RoleName}
@@ -9,8 +10,7 @@ abbrev pub name_byte : ℕ → Bool
 name_byte b = is_ascii_alphanumeric b || b == 95
 
 abbrev pub name_bytes : List ℕ → Bool
-name_bytes [] = true
-name_bytes (b ∷ bs) = name_byte b && name_bytes bs
+name_bytes bs = list_all name_byte bs
 
 -- 1 to 24 such bytes
 abbrev pub name : List ℕ → Bool

@@ -43,6 +43,10 @@ first p (x ∷ xs) = cond (p x) 0 (suc (first p xs))
 abbrev pub among : {X : Type 0} → (X → Bool) → List X → Bool
 among p xs = nat_lt (first p xs) (length xs)
 
+-- the place of the first that passes, where one does
+abbrev pub place : {X : Type 0} → (X → Bool) → List X → Option ℕ
+place p xs = cond (among p xs) (Some (first p xs)) None
+
 -- the names of a kind, and how many there may be
 abbrev pub names : Kind → Plain → List (List ℕ)
 names Entity p = p.entities

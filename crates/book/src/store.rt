@@ -1,9 +1,12 @@
-ghost use Rattle.std.specs.Prelude.{◌≤◌, vec_len, vec_capacity};
+ghost use Rattle.std.specs.Prelude.{ℕ, ◌≤◌, List, vec_len, vec_capacity};
 
+use arrayvec::ArrayVec;
 use credential::Credential;
+use std::marker::Model;
 
 pub mod credentials;
 pub mod enrolment;
+pub mod list;
 pub mod names;
 pub mod number;
 
@@ -15,22 +18,30 @@ pub const ROLE_NAMES: usize = 32;
 
 pub const CREDENTIALS: usize = 256;
 
-// A name as it is kept: the first `len` of its bytes.
-#[derive(Clone, Copy, Debug)]
-pub struct Name {
-    bytes: [u8; NAME_LENGTH],
-    len: u8,
-    ghost fits: { len ≤ 24 },
+// A name as it is kept: clauses see its bytes.
+#[derive(Drop)]
+pub struct Name(ArrayVec<u8, NAME_LENGTH>);
+
+impl Model for Name {
+    ghost Value = { List ℕ };
+
+    ghost view = { λ n. n.0.items };
 }
 
-// The names enrolled, each kind in order of enrolment: a name's place is its number. All room is
-// reserved when it is made, so that no later call wants memory.
+// The names of one kind, in order of enrolment: a name's place is its number, a byte. There may be
+// MOST of them, and the room for all is reserved when the list is made.
+#[derive(Drop)]
+pub struct NameList<const MOST: usize> {
+    names: Vec<Name>,
+    ghost room: { (MOST ≤ vec_capacity names) × (vec_len names ≤ MOST) },
+    ghost numbered: { MOST ≤ 256 },
+}
+
+// The names enrolled. No call wants memory once it is made.
 #[derive(Drop)]
 pub struct Register {
-    entities: Vec<Name>,
-    role_names: Vec<Name>,
-    ghost entities_room: { (64 ≤ vec_capacity entities) × (vec_len entities ≤ 64) },
-    ghost role_names_room: { (32 ≤ vec_capacity role_names) × (vec_len role_names ≤ 32) },
+    entities: NameList<ENTITIES>,
+    role_names: NameList<ROLE_NAMES>,
 }
 
 // The credentials in force, in order of place. All room is reserved when it is made.

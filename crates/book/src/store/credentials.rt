@@ -1,7 +1,7 @@
 // The book: credentials are added, withdrawn and read by place.
 ghost use Rattle.std.specs.Prelude.{◌≡◌, ◌≤◌, [], length, IfOk, nat_lt};
 ghost use Rattle.credential.specs.Same.{says};
-ghost use Rattle.book.specs.Plain.{first, role_enrolled, body_enrolled, claim_enrolled, record_in_range, in_range, answer, next, add, withdraw};
+ghost use Rattle.book.specs.Plain.{place, role_enrolled, body_enrolled, claim_enrolled, record_in_range, in_range, answer, next, add, withdraw};
 ghost use Rattle.book.specs.Kept.{entities, role_names, listed, plain, place_said, StandsAfter};
 
 use super::*;
@@ -65,8 +65,9 @@ impl Book {
     pub fn new(heap: Global) -> Result<Book, AllocError>
         ensures { IfOk result (λ b. listed b ≡ []) }
     {
-        let credentials = Vec::with_capacity(heap, CREDENTIALS)?;
-        Ok(Book { credentials })
+        Ok(Book {
+            credentials: Vec::with_capacity(heap, CREDENTIALS)?,
+        })
     }
 
     // The credentials in force, in order of place.
@@ -76,16 +77,11 @@ impl Book {
         self.credentials.as_slice()
     }
 
-    // The place of the statement, or the count where it is not in force.
-    fn place_of(&self, statement: &Statement) -> usize
-        ensures { result ≡ first (says statement.now) (listed self.now) }
+    // The place of the statement, if it is in force.
+    fn place_of(&self, statement: &Statement) -> Option<usize>
+        ensures { result ≡ place (says statement.now) (listed self.now) }
     {
-        for (i, c) in self.credentials.iter().enumerate() {
-            if c.says(statement) {
-                return i;
-            }
-        }
-        self.credentials.len()
+        self.credentials.iter().position(|c| c.says(statement))
     }
 
     pub fn add(&mut self, register: &Register, credential: Credential) -> Result<usize, Refusal>
@@ -99,10 +95,10 @@ impl Book {
         if !is_in_range(credential.body) {
             return Err(Refusal::WeightOutOfRange);
         }
-        let place = self.credentials.len();
-        if self.place_of(&credential.statement()) < place {
+        if self.place_of(&credential.statement()).is_some() {
             return Err(Refusal::AlreadyInForce);
         }
+        let place = self.credentials.len();
         if place >= CREDENTIALS {
             return Err(Refusal::BookFull);
         }
@@ -118,10 +114,7 @@ impl Book {
         if !register.has_claim(statement) {
             return Err(Refusal::NotEnrolled);
         }
-        let place = self.place_of(&statement);
-        if place >= self.credentials.len() {
-            return Err(Refusal::NotInForce);
-        }
+        let place = self.place_of(&statement).ok_or(Refusal::NotInForce)?;
         let _ = self.credentials.remove(place);
         Ok(place)
     }

@@ -1,17 +1,12 @@
-use Rattle.std.proofs.Common.{◌≡◌, sym, ap, ◌∙◌, arith}
-use Rattle.book.specs.Plain.{first}
-use Rattle.book.proofs.Firsts.{first_more, first_found, first_none}
+use Rattle.std.proofs.Common.{◌∙◌, rules}
+use Rattle.std.proofs.lemmas.Iterator.{YieldsList-from_slice}
+use Rattle.std.proofs.lemmas.Iterator.Search.{position_from_yields_List}
+use Rattle.credential.specs.Same.{says}
+use Rattle.book.specs.Kept.{listed}
+use Rattle.book.proofs.Firsts.{place_is}
 use Rattle.book.proofs.store.Book.place_of.Goals as goal
-
-pub returns-then-says : goal.returns-then-says
-returns-then-says c =
-    rw (sym c.deref-c-items.ensures.value) (first_found _ _ _ _ c.loop-i-test.true (sym c.if-says.ensures.value) c.loop-i.invariant)
-
-pub loop-i-preserved : goal.loop-i-preserved
-loop-i-preserved c = first_more _ _ _ _ c.loop-i-test.true (sym c.if-says.ensures.value) c.loop-i.invariant
 
 pub returns : goal.returns
 returns c =
-    let e = first_none _ _ _ c.loop-i-test.false c.loop-i.invariant in
-    let n : c.len.result ≡ c.loop-i.i = omega arith in
-    n ∙ e ∙ ap (first _) c.deref-c-items.ensures.value
+    position_from_yields_List (says c.args.statement.now) _ _ _ c.position.ensures.ran (YieldsList-from_slice (listed c.args.self.now) cc) (λ x b q k. search rules)
+    ∙ place_is (says c.args.statement.now) (listed c.args.self.now)

@@ -1,0 +1,71 @@
+// The names of one kind: put last, found by their spelling and spelled by their number.
+ghost use Rattle.std.specs.Prelude.{◌≡◌, ◌≤◌, [], length, IfSome, IfOk, slice_get};
+ghost use Rattle.std.specs.Option.{option_map};
+ghost use Rattle.book.specs.Kept.{name_number};
+ghost use Rattle.book.specs.Puts.{Puts};
+
+use super::*;
+use crate::refusal::Refusal;
+use std::alloc::{AllocError, Global};
+
+impl<const MOST: usize> NameList<MOST> {
+    pub(super) fn new(heap: Global) -> Result<NameList<MOST>, AllocError>
+        requires { MOST ≤ 256 }
+        ensures { IfOk result (λ l. l.names.items ≡ []) }
+    {
+        let names = Vec::with_capacity(heap, MOST)?;
+        Ok(NameList { names })
+    }
+
+    pub(super) fn len(&self) -> usize
+        ensures value { result ≡ length self.now.names.items }
+        ensures few { result ≤ MOST }
+    {
+        self.names.len()
+    }
+
+    pub(super) fn as_slice(&self) -> &[Name]
+        ensures value { result.now ≡ self.now.names.items }
+        ensures few { length result.now ≤ MOST }
+    {
+        self.names.as_slice()
+    }
+
+    // Puts the word last, unless it is there or the list is full.
+    pub(super) fn enrol(&mut self, word: &[u8]) -> Result<u8, Refusal>
+        requires { length word.now ≤ 24 }
+        ensures { Puts MOST word.now self.old.names.items result self.new.names.items }
+    {
+        if place_of(self.as_slice(), word).is_some() {
+            return Err(Refusal::AlreadyEnrolled);
+        }
+        let place = self.len();
+        if place >= MOST {
+            return Err(Refusal::RegisterFull);
+        }
+        self.names.push_reserved(Name::of(word));
+        Ok(place as u8)
+    }
+}
+
+// The place of the word among these names, if it is one of them.
+fn place_of(names: &[Name], word: &[u8]) -> Option<usize>
+    ensures { result ≡ name_number names.now word.now }
+{
+    names.iter().position(|n| word == n.text())
+}
+
+// The number of the word among these names, if it is one of them.
+pub(super) fn number_of(names: &[Name], word: &[u8]) -> Option<u8>
+    requires { length names.now ≤ 256 }
+    ensures { result ≡ name_number names.now word.now }
+{
+    place_of(names, word).map(|place| place as u8)
+}
+
+pub(super) fn spelling_of(names: &[Name], n: u8) -> Option<&[u8]>
+    ensures value { option_map (λ x. x.now) result ≡ slice_get names.now n }
+    ensures short { IfSome result (λ s. length s.now ≤ 24) }
+{
+    Some(names.get(usize::from(n))?.text())
+}
