@@ -76,7 +76,6 @@ impl Claim<Record> {
         ensures value { result ≡ says statement.now self.now }
         ensures means { Decides result (statement_of self.now ≡ statement.now) }
     {
-        let own = self.statement();
-        own.head == statement.head && own.body == statement.body
+        self.statement() == *statement
     }
 }

@@ -14,32 +14,28 @@ use distance::Distance;
 use pair::Pair;
 
 pub mod ceiling;
-pub mod ceiling_scale;
 pub mod distance;
-pub mod distance_scale;
 pub mod pair;
-pub mod pair_scale;
+mod stated;
 #[cfg(test)]
 mod tests;
 pub mod weight;
 pub mod worked;
 pub mod yes;
 
+// How the weights other than none compare and combine, and how a record states one.
 pub trait Scale: Copy {
     // Full, better-of, combine, and the two readings.
     ghost meaning: { Meaning Self };
-
-    // What each scale proves of all its weights, none among them.
-    ghost laws: { Laws meaning };
-
-    // Apart from the laws, since most of what is proved of scales stands without it.
-    ghost chooses: { Chooses meaning };
 
     fn full() -> Self
         ensures { result ≡ meaning.full };
 
     fn better_of(self, other: Self) -> Self
-        ensures { result ≡ meaning.better self other };
+        ensures { result ≡ meaning.better self other }
+    {
+        if self.at_least(other) { self } else { other }
+    }
 
     // `None` where the two combine to none.
     fn combine(self, other: Self) -> Option<Self>
@@ -55,37 +51,23 @@ pub trait Scale: Copy {
     // The weight that a threshold's record asks for; `None` where it is unreadable.
     fn read_threshold(stated: Record) -> Option<Self>
         ensures { result ≡ meaning.threshold stated };
+
+    // What each scale proves of all its weights, none among them.
+    ghost laws: { Laws meaning };
+
+    // Apart from the laws, since most of what is proved of scales stands without it.
+    ghost chooses: { Chooses meaning };
 }
 
 // A scale whose weights in strict order stay so when each is combined with a third, unless both
 // results are none. A pair's first part has to be one.
 pub trait StrictScale: Scale {
-    ghost meaning: { Meaning Self };
-
-    ghost laws: { Laws meaning };
-
-    ghost chooses: { Chooses meaning };
-
-    ghost strict: { Strict meaning };
-
-    // What is said here is said of the plain scale.
-    fn strict_is_plain()
-        ensures { meaning ≡ Self.Scale.meaning };
+    ghost strict: { Strict Self.Scale.meaning };
 }
 
 // A scale whose weights other than none never combine to none. A pair's second part has to be one.
 pub trait SolidScale: Scale {
-    ghost meaning: { Meaning Self };
-
-    ghost laws: { Laws meaning };
-
-    ghost chooses: { Chooses meaning };
-
-    ghost solid: { Solid meaning };
-
-    // What is said here is said of the plain scale.
-    fn solid_is_plain()
-        ensures { meaning ≡ Self.Scale.meaning };
+    ghost solid: { Solid Self.Scale.meaning };
 }
 
 // The gate's maxima.

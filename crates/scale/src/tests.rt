@@ -4,18 +4,18 @@ use crate::weight::{at_least, best, better_of, combine, raise, strictly_better};
 use crate::yes::Yes;
 use crate::{Ceilings, Distances, Nearest, Scale};
 use credential::Record;
+use std::cmp::Ordering::{Equal, Greater, Less};
 
 fn bytes<const MOST: u32>(weight: Option<Ceiling<MOST>>) -> Option<u32> {
-    Some(weight?.bytes)
+    weight.map(|ceiling| ceiling.bytes)
 }
 
 fn points(weight: Option<Distances>) -> Option<u32> {
-    Some(weight?.points)
+    weight.map(|distance| distance.points)
 }
 
 fn parts(weight: Option<Nearest>) -> Option<(u32, u32)> {
-    let pair = weight?;
-    Some((pair.first.points, pair.second.bytes))
+    weight.map(|pair| (pair.first.points, pair.second.bytes))
 }
 
 fn far(distance: i32) -> Option<Distances> {
@@ -118,24 +118,24 @@ fn sums_come_out(rt: HostRuntime) {
 
 #[test]
 fn weights_compare(rt: HostRuntime) {
-    // Two pairs, and which is the better: 1 the first, 2 the second, 0 neither.
+    // Two pairs, and how good the first is beside the second.
     let table = [
-        (near(1, 800), near(3, 2000), 1),
-        (near(3, 2000), near(1, 800), 2),
-        (near(3, 800), near(3, 2000), 2),
-        (near(3, 2000), near(3, 2000), 0),
-        (near(0, 0), near(1, i32::MAX), 1),
-        (near(1_000_000, 0), None, 1),
-        (None, near(1_000_000, 0), 2),
-        (None, None, 0),
-        (near(0, -1), Some(Nearest::full()), 0),
+        (near(1, 800), near(3, 2000), Greater),
+        (near(3, 2000), near(1, 800), Less),
+        (near(3, 800), near(3, 2000), Less),
+        (near(3, 2000), near(3, 2000), Equal),
+        (near(0, 0), near(1, i32::MAX), Greater),
+        (near(1_000_000, 0), None, Greater),
+        (None, near(1_000_000, 0), Less),
+        (None, None, Equal),
+        (near(0, -1), Some(Nearest::full()), Equal),
     ];
-    for (x, y, winner) in table {
-        assert_eq!(rt; strictly_better(x, y), winner == 1);
-        assert_eq!(rt; strictly_better(y, x), winner == 2);
-        assert_eq!(rt; at_least(x, y), winner != 2);
-        assert_eq!(rt; at_least(y, x), winner != 1);
-        assert_eq!(rt; better_of(x, y), if winner == 2 { y } else { x });
+    for (x, y, order) in table {
+        assert_eq!(rt; strictly_better(x, y), order == Greater);
+        assert_eq!(rt; strictly_better(y, x), order == Less);
+        assert_eq!(rt; at_least(x, y), order != Less);
+        assert_eq!(rt; at_least(y, x), order != Greater);
+        assert_eq!(rt; better_of(x, y), if order == Less { y } else { x });
     }
     assert!(rt; at_least(far(7), far(7)));
     assert!(rt; strictly_better(far(7), far(8)));

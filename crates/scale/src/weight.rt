@@ -8,12 +8,9 @@ use crate::Scale;
 pub fn better_of<S: Scale>(x: Option<S>, y: Option<S>) -> Option<S>
     ensures { result ≡ better_of S.Scale.meaning x y }
 {
-    match x {
-        None => y,
-        Some(a) => match y {
-            None => Some(a),
-            Some(b) => Some(a.better_of(b)),
-        },
+    match (x, y) {
+        (Some(a), Some(b)) => Some(a.better_of(b)),
+        _ => x.or(y),
     }
 }
 
@@ -26,12 +23,9 @@ pub fn combine<S: Scale>(x: Option<S>, y: Option<S>) -> Option<S>
 pub fn at_least<S: Scale>(x: Option<S>, y: Option<S>) -> bool
     ensures { Decides result (AtLeast S.Scale.meaning x y) }
 {
-    match y {
-        None => true,
-        Some(b) => match x {
-            None => false,
-            Some(a) => a.at_least(b),
-        },
+    match (x, y) {
+        (Some(a), Some(b)) => a.at_least(b),
+        _ => y.is_none(),
     }
 }
 
@@ -46,11 +40,7 @@ pub fn strictly_better<S: Scale>(x: Option<S>, y: Option<S>) -> bool
 pub fn best<S: Scale>(list: &[Option<S>]) -> Option<S>
     ensures { result ≡ best_of S.Scale.meaning list.now }
 {
-    let mut top = None;
-    for x in list {
-        top = better_of(top, *x);
-    }
-    top
+    list.iter().copied().fold(None, better_of)
 }
 
 // Raises an entry to the better of itself and x, and says whether it is now strictly better than
@@ -60,10 +50,10 @@ pub fn raise<S: Scale>(list: &mut [Option<S>], i: usize, x: Option<S>) -> bool
     ensures raised { Decides result (Stricter S.Scale.meaning (slice_index_or list.new i None) (slice_index_or list.old i None)) }
     ensures past { length list.old ≤ i → (result ≡ false) × (list.new ≡ list.old) }
 {
-    if i >= list.len() {
+    let Some(&was) = list.get(i) else {
         return false;
-    }
-    let was = list[i];
+    };
+    // Written by index: of a slice's `get_mut` no proof knows which entry it changed.
     list[i] = better_of(was, x);
     !at_least(was, x)
 }

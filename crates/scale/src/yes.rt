@@ -15,51 +15,31 @@ impl Scale for Yes {
 
     ghost chooses = { yes_chooses };
 
-    fn full() -> Yes {
+    fn full() -> Self {
         Yes
     }
 
-    fn better_of(self, _other: Yes) -> Yes {
-        self
-    }
-
-    fn combine(self, _other: Yes) -> Option<Yes> {
+    fn combine(self, _other: Self) -> Option<Self> {
         Some(self)
     }
 
-    fn at_least(self, _other: Yes) -> bool {
+    fn at_least(self, _other: Self) -> bool {
         true
     }
 
-    fn read_credential(_stated: Record) -> Option<Yes> {
+    fn read_credential(_stated: Record) -> Option<Self> {
         Some(Yes)
     }
 
-    fn read_threshold(_stated: Record) -> Option<Yes> {
+    fn read_threshold(_stated: Record) -> Option<Self> {
         Some(Yes)
     }
 }
 
 impl StrictScale for Yes {
-    ghost meaning = { Self.Scale.meaning };
-
-    ghost laws = { Self.Scale.laws };
-
-    ghost chooses = { Self.Scale.chooses };
-
     ghost strict = { yes_strict };
-
-    fn strict_is_plain() {}
 }
 
 impl SolidScale for Yes {
-    ghost meaning = { Self.Scale.meaning };
-
-    ghost laws = { Self.Scale.laws };
-
-    ghost chooses = { Self.Scale.chooses };
-
     ghost solid = { yes_solid };
-
-    fn solid_is_plain() {}
 }

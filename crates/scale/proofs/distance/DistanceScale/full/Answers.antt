@@ -1,6 +1,6 @@
 use Rattle.std.proofs.Common.{refl}
 use Rattle.scale.specs.Same.{distance_is}
-use Rattle.scale.proofs.distance_scale.DistanceScale.full.Goals as goal
+use Rattle.scale.proofs.distance.DistanceScale.full.Goals as goal
 
 pub returns : goal.returns
 returns g c = distance_is _ _ refl
