@@ -1,208 +1,232 @@
 -- The walk's invariant: a stack of open cells, each a premise of the one below it, over the cells that are done.
-use Rattle.std.proofs.Common.{◌≡◌, ℕ, ◌+◌, ◌-◌, ◌<◌, ◌≤◌, ◌≢◌, ◌⊎◌, List, [], ◌∷◌, length, get_or, set, sym, ap, ◌∙◌, subst, inl, inr, arith}
-use mathlib.Core.List.{Memᴰ}
-use Rattle.std.proofs.lemmas.List.{length-set, get_or-set_same, get_or-set_other}
-use Rattle.std.proofs.lemmas.Bool.{cases_eq, cases_lt}
-use Rattle.rules.proofs.Rounds.{Distinct, nothing, one_more}
+use Rattle.std.proofs.Common.{◌≡◌, ℕ, ◌+◌, ◌-◌, ◌<◌, ◌≤◌, ◌≢◌, ◌⊎◌, eqb, List, [], ◌∷◌, ◌++◌, length, get_or, set, take, replicate, Option, Some, None, sym, refl, ap, ◌∙◌, subst, inl, inr, arith}
+use Rattle.std.specs.List.{All, AllPairs, slice_get}
+use Rattle.std.proofs.lemmas.Bool.{cases_eq, cases_lt, eqb-true}
+use Rattle.std.proofs.lemmas.Bool.Decides.{Decides-eqb}
+use Rattle.std.proofs.lemmas.List.{get_or-set_same, get_or-set_other, get_or_append_left, get_or-append_right, get_or_push, length_push, get_or-replicate, take_more, take_all, length-append, length-set, get_or_default, get_or_past, length-replicate}
+use Rattle.std.proofs.lemmas.List.Elements.{All-append, All-push, All-nil}
+use Rattle.std.proofs.lemmas.List.Quantifiers.{all_pairs_push}
+use Rattle.std.proofs.lemmas.List.Folds.{Any-from_list_any}
+use Rattle.std.proofs.lemmas.Map.Made.{IsDistinct-from_AllPairs}
+use Rattle.std.proofs.lemmas.Map.Steps.{length-le_from_distinct_below}
+use Rattle.std.proofs.lemmas.Option.{get_or_from_slice_get, slice_get_within}
 use Rattle.walk.specs.declared.reasons.CellStep.{CellStep}
-use Rattle.walk.specs.Walk.{Premise, Reached, here, onward, Acyclic, Ordered}
-use Rattle.walk.proofs.Pigeon.{onto, onto_mem, onto_length, onto_distinct, below_fit}
+use Rattle.walk.specs.Walk.{number_in, open_premise, Premise, Reached, here, onward, Acyclic, Ordered}
+use Rattle.walk.proofs.Opens.{open_some, open_none}
+
+-- nothing has a number at first
+pub none_yet : (m c : ℕ) → number_in (replicate m None) c ≡ None
+none_yet m c = by (cases_lt c m)
+  where
+    by : (c < m) ⊎ (m ≤ c) → number_in (replicate m None) c ≡ None
+    by (inl h) = get_or-replicate m c None None h
+    by (inr h) = get_or_past (replicate m None) c None (omega (arith, length-replicate {A = Option ℕ} m None))
+
+-- different numbers below n are at most n
+few_below : (n : ℕ) (xs : List ℕ) → AllPairs (λ a b. a ≢ b) xs → All (λ c. c < n) xs → length xs ≤ n
+few_below n xs apart low =
+    length-le_from_distinct_below xs n (IsDistinct-from_AllPairs Decides-eqb xs apart) (λ q h.
+    let a = Any-from_list_any (eqb q) xs h in
+    let e = eqb-true q a.1 a.4 in
+    omega (arith, e, a.3, low a.0 a.1 a.2))
+
+-- the last element, apart
+pub from_last : (xs : List ℕ) (t : ℕ) → Some t ≡ slice_get xs (length xs - 1) → xs ≡ take (length xs - 1) xs ++ t ∷ []
+from_last xs t e =
+    let within = slice_get_within xs (length xs - 1) t (sym e) in
+    let whole : length xs - 1 + 1 ≡ length xs = omega (arith, within) in
+    sym (take_all (length xs) xs (omega arith)) ∙ ap (λ i. take i xs) (sym whole) ∙ take_more xs (length xs - 1) t within
+    ∙ ap (λ x. take (length xs - 1) xs ++ x ∷ []) (get_or_from_slice_get xs (length xs - 1) t t (sym e))
 
 -- one more element
-module _ (P : ℕ → ℕ → Type 0) (l : List ℕ) (h v : ℕ) where
-  each_kept : ((k : ℕ) → k < h → P k (get_or l k 0)) → (k : ℕ) → k < h → P k (get_or (set l h v) k 0)
-  each_kept old k a = let ne : k ≢ h = omega arith in subst (P k) (sym (get_or-set_other l h k v 0 ne)) (old k a)
+each_push : (P : ℕ → ℕ → Type 0) (xs : List ℕ) (v : ℕ) → ((k : ℕ) → k < length xs → P k (get_or xs k 0)) → P (length xs) v → (k : ℕ) → k < length (xs ++ v ∷ []) → P k (get_or (xs ++ v ∷ []) k 0)
+each_push P xs v old new k a = by (cases_lt k (length xs))
+  where
+    by : (k < length xs) ⊎ (length xs ≤ k) → P k (get_or (xs ++ v ∷ []) k 0)
+    by (inl b) = subst (P k) (sym (get_or_append_left xs (v ∷ []) 0 k b)) (old k b)
+    by (inr b) = let e : length xs ≡ k = omega (arith, length_push xs v) in subst (λ i. P i (get_or (xs ++ v ∷ []) i 0)) e (subst (P (length xs)) (sym (get_or_push xs v 0 (length xs) refl)) new)
 
-  each_more : h < length l → ((k : ℕ) → k < h → P k (get_or l k 0)) → P h v → (k : ℕ) → k < h + 1 → P k (get_or (set l h v) k 0)
-  each_more within old new k a = by (cases_lt k h)
-    where
-      by : (k < h) ⊎ (h ≤ k) → P k (get_or (set l h v) k 0)
-      by (inl b) = each_kept old k b
-      by (inr b) = let e : h ≡ k = omega arith in subst (λ i. P i (get_or (set l h v) i 0)) e (subst (P h) (sym (get_or-set_same l h v 0 within)) new)
+-- and one less
+all_front : (P : ℕ → Type 0) (xs : List ℕ) (t : ℕ) → All P (xs ++ t ∷ []) → All P xs
+all_front P xs t h k d a = subst P (get_or_append_left xs (t ∷ []) d k a) (h k d (omega (arith, length_push xs t)))
+
+all_last : (P : ℕ → Type 0) (xs : List ℕ) (t : ℕ) → All P (xs ++ t ∷ []) → P t
+all_last P xs t h = subst P (get_or_push xs t 0 (length xs) refl) (h (length xs) 0 (omega (arith, length_push xs t)))
+
+pairs_front : (R : ℕ → ℕ → Type 0) (xs : List ℕ) (t : ℕ) → AllPairs R (xs ++ t ∷ []) → AllPairs R xs
+pairs_front R xs t h i j d a b = subst (λ x. R x (get_or xs j d)) (get_or_append_left xs (t ∷ []) d i (omega arith)) (subst (R (get_or (xs ++ t ∷ []) i d)) (get_or_append_left xs (t ∷ []) d j b) (h i j d a (omega (arith, length_push xs t))))
+
+pairs_last : (R : ℕ → ℕ → Type 0) (xs : List ℕ) (t : ℕ) → AllPairs R (xs ++ t ∷ []) → All (λ x. R x t) xs
+pairs_last R xs t h k d a = subst (λ x. R x t) (get_or_append_left xs (t ∷ []) d k a) (subst (R (get_or (xs ++ t ∷ []) k d)) (get_or_push xs t d (length xs) refl) (h k (length xs) d a (omega (arith, length_push xs t))))
+
+first_kept : (xs : List ℕ) (t g : ℕ) → get_or (xs ++ t ∷ []) 0 g ≡ g → get_or xs 0 g ≡ g
+first_kept [] t g h = refl
+first_kept (x ∷ xs) t g h = h
+
+first_only : (xs : List ℕ) (t g : ℕ) → length xs ≡ 0 → get_or (xs ++ t ∷ []) 0 g ≡ g → t ≡ g
+first_only [] t g e h = h
+first_only (x ∷ xs) t g e h = absurd (omega arith)
+
+some_from : (o : Option ℕ) → (o ≡ None → ⊥) → (j : ℕ) × (o ≡ Some j)
+some_from None h = absurd (h refl)
+some_from (Some j) h = (j, refl)
 
 module _ (leads : ℕ → CellStep) (n goal : ℕ) where
-  pub record Walking (number stack order : List ℕ) (height count : ℕ) : Type 0 where
+  -- open cells have no number, and done cells their places
+  pub record Walking (numbers : List (Option ℕ)) (stack order : List ℕ) : Type 0 where
     pub acyclic : Acyclic leads n
     pub small : n ≤ 32768
-    pub long_number : n ≤ length number
-    pub long_stack : n ≤ length stack
-    pub long_order : n ≤ length order
-    pub room : height + count ≤ n
-    pub at_goal : 0 < height → get_or stack 0 0 ≡ goal
-    pub open_in : (k : ℕ) → k < height → get_or stack k 0 < n
-    pub open_un : (k : ℕ) → k < height → get_or number (get_or stack k 0) 0 ≡ 65535
-    pub chain : (j k : ℕ) → j < k → k < height → acyclic.rank (get_or stack k 0) < acyclic.rank (get_or stack j 0)
-    pub open_reached : (k : ℕ) → k < height → Reached leads goal (get_or stack k 0)
-    pub done_in : (k : ℕ) → k < count → get_or order k 0 < n
-    pub done_num : (k : ℕ) → k < count → get_or number (get_or order k 0) 0 ≡ k
-    pub num_done : (c : ℕ) → c < n → (get_or number c 0 ≡ 65535 → ⊥) → (get_or number c 0 < count) × (get_or order (get_or number c 0) 0 ≡ c)
-    pub done_first : (k p : ℕ) → k < count → Premise (leads (get_or order k 0)) p → get_or number p 0 < k
-    pub done_reached : (k : ℕ) → k < count → Reached leads goal (get_or order k 0)
-    pub ended : height ≡ 0 → (0 < count) × (get_or order (count - 1) 0 ≡ goal)
+    pub long : length numbers ≡ 32768
+    pub room : length stack + length order ≤ n
+    pub open_in : All (λ c. c < n) stack
+    pub open_un : All (λ c. number_in numbers c ≡ None) stack
+    pub open_reached : All (Reached leads goal) stack
+    pub chain : AllPairs (λ b c. acyclic.rank c < acyclic.rank b) stack
+    pub done_in : All (λ c. c < n) order
+    pub done_reached : All (Reached leads goal) order
+    pub done_num : (k : ℕ) → k < length order → number_in numbers (get_or order k 0) ≡ Some k
+    pub num_done : (c k : ℕ) → number_in numbers c ≡ Some k → (k < length order) × (get_or order k 0 ≡ c)
+    pub done_first : (k p : ℕ) → k < length order → Premise (leads (get_or order k 0)) p → (j : ℕ) × (j < k) × (number_in numbers p ≡ Some j)
+    pub at_goal : get_or stack 0 goal ≡ goal
+    pub ended : length stack ≡ 0 → (0 < length order) × (get_or order (length order - 1) 0 ≡ goal)
 
-  pub start : (number stack order : List ℕ) → Acyclic leads n → n ≤ 32768 → goal < n → n ≤ length number → n ≤ length stack → n ≤ length order → ((k : ℕ) → k < n → get_or number k 0 ≡ 65535) → Walking number (set stack 0 goal) order 1 0
-  start number stack order a small inside ln ls lo fresh =
-      let first : get_or (set stack 0 goal) 0 0 ≡ goal = get_or-set_same stack 0 goal 0 (omega arith) in
-      let only : (P : ℕ → Type 0) → P goal → (k : ℕ) → k < 1 → P (get_or (set stack 0 goal) k 0) = λ P p k h. let e : 0 ≡ k = omega arith in subst (λ i. P (get_or (set stack 0 goal) i 0)) e (subst P (sym first) p) in
-      record {
-        acyclic = a;
-        small = small;
-        long_number = ln;
-        long_stack = simp length-set ls;
-        long_order = lo;
-        room = omega arith;
-        at_goal = λ _. first;
-        open_in = only (λ c. c < n) inside;
-        open_un = only (λ c. get_or number c 0 ≡ 65535) (fresh goal inside);
-        chain = λ j k h l. absurd (omega arith);
-        open_reached = only (Reached leads goal) here;
-        done_in = λ k h. absurd (omega arith);
-        done_num = λ k h. absurd (omega arith);
-        num_done = λ c h x. absurd (x (fresh c h));
-        done_first = λ k p h. absurd (omega arith);
-        done_reached = λ k h. absurd (omega arith);
-        ended = λ h. absurd (omega arith);
-      }
+  -- the open cells and those that are done are all different
+  fits : (a : Acyclic leads n) (numbers : List (Option ℕ)) (stack order : List ℕ) → All (λ c. c < n) stack → All (λ c. number_in numbers c ≡ None) stack → AllPairs (λ b c. a.rank c < a.rank b) stack → All (λ c. c < n) order → ((k : ℕ) → k < length order → number_in numbers (get_or order k 0) ≡ Some k) → length stack + length order ≤ n
+  fits a numbers stack order low un chain done_low num = omega (arith, few_below n (stack ++ order) apart (All-append (λ c. c < n) stack order low done_low), length-append stack order)
+    where
+      left : (k d : ℕ) → k < length stack → get_or (stack ++ order) k d ≡ get_or stack k d
+      left k d h = get_or_append_left stack order d k h
 
-  module _ {number stack order : List ℕ} {height count : ℕ} (w : Walking number stack order height count) (some : 0 < height) where
-    abbrev top : ℕ
-    top = get_or stack (height - 1) 0
+      right : (k d : ℕ) → length stack ≤ k → k < length (stack ++ order) → number_in numbers (get_or (stack ++ order) k d) ≡ Some (k - length stack)
+      right k d h l =
+          let low : k - length stack < length order = omega (arith, length-append stack order) in
+          ap (number_in numbers) (get_or-append_right stack order (length stack) k d refl h ∙ get_or_default order (k - length stack) d 0 low) ∙ num (k - length stack) low
 
-    top_in : get_or stack (height - 1) 0 < n
-    top_in = w.open_in (height - 1) (omega arith)
+      by : (i j d : ℕ) → i < j → j < length (stack ++ order) → (i < length stack) ⊎ (length stack ≤ i) → (j < length stack) ⊎ (length stack ≤ j) → get_or (stack ++ order) i d ≡ get_or (stack ++ order) j d → ⊥
+      by i j d h l (inl i_in) (inl j_in) e =
+          let q = ap a.rank (sym (left i d i_in) ∙ e ∙ left j d j_in) in
+          omega (arith, q, chain i j d h j_in)
+      by i j d h l (inl i_in) (inr b) e =
+          let q : None ≡ Some (j - length stack) = sym (un i d i_in) ∙ ap (number_in numbers) (sym (left i d i_in) ∙ e) ∙ right j d b l in cc
+      by i j d h l (inr i_off) (inl j_in) e = absurd (omega arith)
+      by i j d h l (inr i_off) (inr j_off) e =
+          let q : Some (i - length stack) ≡ Some (j - length stack) = sym (right i d i_off (omega arith)) ∙ ap (number_in numbers) e ∙ right j d j_off l in
+          let same : i - length stack ≡ j - length stack = cc in
+          omega arith
 
-    top_un : get_or number (get_or stack (height - 1) 0) 0 ≡ 65535
-    top_un = w.open_un (height - 1) (omega arith)
+      apart : AllPairs (λ a b. a ≢ b) (stack ++ order)
+      apart i j d h l = by i j d h l (cases_lt i (length stack)) (cases_lt j (length stack))
 
-    -- a cell on the stack stands no lower than the top
-    above : (j : ℕ) → j < height → w.acyclic.rank (get_or stack (height - 1) 0) ≤ w.acyclic.rank (get_or stack j 0)
-    above j h = by (cases_lt j (height - 1))
-      where
-        by : (j < height - 1) ⊎ (height - 1 ≤ j) → w.acyclic.rank (get_or stack (height - 1) 0) ≤ w.acyclic.rank (get_or stack j 0)
-        by (inl a) = let c = w.chain j (height - 1) a (omega arith) in omega (arith, c)
-        by (inr a) = let e : j ≡ height - 1 = omega arith in let r = ap (λ i. w.acyclic.rank (get_or stack i 0)) e in omega (arith, r)
+  pub start : (numbers : List (Option ℕ)) → length numbers ≡ 32768 → ((c : ℕ) → number_in numbers c ≡ None) → Acyclic leads n → n ≤ 32768 → goal < n → Walking numbers (goal ∷ []) []
+  start numbers long none a small inside = record {
+    acyclic = a;
+    small = small;
+    long = long;
+    room = omega arith;
+    open_in = All-push (λ c. c < n) [] goal (All-nil (λ c. c < n)) inside;
+    open_un = All-push (λ c. number_in numbers c ≡ None) [] goal (All-nil (λ c. number_in numbers c ≡ None)) (none goal);
+    open_reached = All-push (Reached leads goal) [] goal (All-nil (Reached leads goal)) here;
+    chain = λ i j d h l. absurd (omega arith);
+    done_in = All-nil (λ c. c < n);
+    done_reached = All-nil (Reached leads goal);
+    done_num = λ k h. absurd (omega arith);
+    num_done = λ c k e. let q : None ≡ Some k = sym (none c) ∙ e in cc;
+    done_first = λ k p h. absurd (omega arith);
+    at_goal = refl;
+    ended = λ e. absurd (omega arith);
+  }
 
-    module _ (p : ℕ) (premise : Premise (leads (get_or stack (height - 1) 0)) p) (un : get_or number p 0 ≡ 65535) where
-      p_in : p < n
-      p_in = w.acyclic.inside top p top_in premise
+  module _ {numbers : List (Option ℕ)} (rest : List ℕ) (top : ℕ) {order : List ℕ} (w : Walking numbers (rest ++ top ∷ []) order) where
+    top_in : top < n
+    top_in = all_last (λ c. c < n) rest top w.open_in
 
-      lower : (j : ℕ) → j < height → w.acyclic.rank p < w.acyclic.rank (get_or stack j 0)
-      lower j h = omega (arith, w.acyclic.falls top p top_in premise, above j h)
-
-      -- the open cells, the new one and those that are done are all different
-      pub push_room : height + 1 + count ≤ n
-      push_room =
-          let f : ℕ → ℕ = λ k. get_or stack k 0 in
-          let g : ℕ → ℕ = λ k. get_or order k 0 in
-          let done : List ℕ = onto g count [] in
-          let all : List ℕ = onto f height (p ∷ done) in
-          let numbered : (x : ℕ) → Memᴰ x done → get_or number x 0 ≡ 65535 → ⊥ = λ x m u. in_done x u (onto_mem g count [] x m) in
-          let d0 : Distinct done = onto_distinct g count [] nothing (λ j k a b e. let q = sym (w.done_num k b) ∙ ap (λ x. get_or number x 0) e ∙ w.done_num j (omega arith) in omega (arith, q)) (λ k a m. elim m [ ]) in
-          let d1 : Distinct (p ∷ done) = one_more (λ m. numbered p m un) d0 in
-          let d2 : Distinct all = onto_distinct f height (p ∷ done) d1 (λ j k a b e. let q = ap w.acyclic.rank e in omega (arith, q, w.chain j k a b)) (λ k a m. off k a numbered m) in
-          let fits = below_fit n all d2 (λ x m. in_all x (onto_mem f height (p ∷ done) x m)) in
-          omega (arith, fits, onto_length f height (p ∷ done), onto_length g count [])
-        where
-          in_done : (x : ℕ) → get_or number x 0 ≡ 65535 → ((k : ℕ) × (k < count) × (x ≡ get_or order k 0)) ⊎ Memᴰ x [] → ⊥
-          in_done x u (inl r) = let q = sym (ap (λ z. get_or number z 0) r.2) ∙ u in omega (arith, q, w.done_num r.0 r.1, r.1, w.room, w.small)
-          in_done x u (inr m) = elim m [ ]
-
-          off : (k : ℕ) → k < height → ((x : ℕ) → Memᴰ x (onto (λ k. get_or order k 0) count []) → get_or number x 0 ≡ 65535 → ⊥) → Memᴰ (get_or stack k 0) (p ∷ onto (λ k. get_or order k 0) count []) → ⊥
-          off k a numbered (Memᴰ.head e) = let q = ap w.acyclic.rank e in omega (arith, q, lower k a)
-          off k a numbered (Memᴰ.tail m) = numbered (get_or stack k 0) m (w.open_un k a)
-
-          in_rest : (x : ℕ) → ((k : ℕ) × (k < count) × (x ≡ get_or order k 0)) ⊎ Memᴰ x [] → x < n
-          in_rest x (inl r) = omega (arith, r.2, w.done_in r.0 r.1)
-          in_rest x (inr m) = elim m [ ]
-
-          in_all : (x : ℕ) → ((k : ℕ) × (k < height) × (x ≡ get_or stack k 0)) ⊎ Memᴰ x (p ∷ onto (λ k. get_or order k 0) count []) → x < n
-          in_all x (inl r) = omega (arith, r.2, w.open_in r.0 r.1)
-          in_all x (inr (Memᴰ.head e)) = omega (arith, e, p_in)
-          in_all x (inr (Memᴰ.tail m)) = in_rest x (onto_mem (λ k. get_or order k 0) count [] x m)
-
-      pub push : Walking number (set stack height p) order (height + 1) count
-      push =
-          let room = push_room in
-          let within : height < length stack = omega (arith, w.long_stack) in
-          let old : (k : ℕ) → k < height → get_or (set stack height p) k 0 ≡ get_or stack k 0 = λ k h. let ne : k ≢ height = omega arith in get_or-set_other stack height k p 0 ne in
-          record {
-            acyclic = w.acyclic;
-            small = w.small;
-            long_number = w.long_number;
-            long_stack = simp length-set w.long_stack;
-            long_order = w.long_order;
-            room = omega arith;
-            at_goal = λ _. old 0 some ∙ w.at_goal some;
-            open_in = each_more (λ k c. c < n) stack height p within w.open_in p_in;
-            open_un = each_more (λ k c. get_or number c 0 ≡ 65535) stack height p within w.open_un un;
-            chain = λ j k a b. each_more (λ k c. (j : ℕ) → j < k → w.acyclic.rank c < w.acyclic.rank (get_or (set stack height p) j 0)) stack height p within (λ k b j a. subst (λ x. w.acyclic.rank (get_or stack k 0) < w.acyclic.rank x) (sym (old j (omega arith))) (w.chain j k a b)) (λ j a. subst (λ x. w.acyclic.rank p < w.acyclic.rank x) (sym (old j a)) (lower j a)) k b j a;
-            open_reached = each_more (λ k c. Reached leads goal c) stack height p within w.open_reached (onward (w.open_reached (height - 1) (omega arith)) premise);
-            done_in = w.done_in;
-            done_num = w.done_num;
-            num_done = w.num_done;
-            done_first = w.done_first;
-            done_reached = w.done_reached;
-            ended = λ h. absurd (omega arith);
-          }
+    pub push : (p : ℕ) → Premise (leads top) p → number_in numbers p ≡ None → Walking numbers (rest ++ top ∷ [] ++ p ∷ []) order
+    push p premise un =
+        let stack = rest ++ top ∷ [] in
+        let lower = w.acyclic.falls top p top_in premise in
+        let open_in = All-push (λ c. c < n) stack p w.open_in (w.acyclic.inside top p top_in premise) in
+        let open_un = All-push (λ c. number_in numbers c ≡ None) stack p w.open_un un in
+        let above = All-push (λ b. w.acyclic.rank p < w.acyclic.rank b) rest top (λ k d h. omega (arith, lower, pairs_last (λ b c. w.acyclic.rank c < w.acyclic.rank b) rest top w.chain k d h)) lower in
+        let chain = all_pairs_push (λ b c. w.acyclic.rank c < w.acyclic.rank b) stack p w.chain above in
+        record {
+          acyclic = w.acyclic;
+          small = w.small;
+          long = w.long;
+          room = fits w.acyclic numbers (stack ++ p ∷ []) order open_in open_un chain w.done_in w.done_num;
+          open_in = open_in;
+          open_un = open_un;
+          open_reached = All-push (Reached leads goal) stack p w.open_reached (onward (all_last (Reached leads goal) rest top w.open_reached) premise);
+          chain = chain;
+          done_in = w.done_in;
+          done_reached = w.done_reached;
+          done_num = w.done_num;
+          num_done = w.num_done;
+          done_first = w.done_first;
+          at_goal = get_or_append_left stack (p ∷ []) goal 0 (omega (arith, length_push rest top)) ∙ w.at_goal;
+          ended = λ e. absurd (omega (arith, length_push stack p));
+        }
 
     -- every premise of the top has its number
-    module _ (closed : (p : ℕ) → Premise (leads (get_or stack (height - 1) 0)) p → get_or number p 0 ≡ 65535 → ⊥) where
-      pub emit : Walking (set number (get_or stack (height - 1) 0) count) stack (set order count (get_or stack (height - 1) 0)) (height - 1) (count + 1)
-      emit =
-          let t = get_or stack (height - 1) 0 in
-          let within : count < length order = omega (arith, w.long_order, w.room) in
-          let in_number : t < length number = omega (arith, w.long_number, top_in) in
-          let fresh : get_or (set number t count) t 0 ≡ count = get_or-set_same number t count 0 in_number in
-          let other : (c : ℕ) → c ≢ t → get_or (set number t count) c 0 ≡ get_or number c 0 = λ c ne. get_or-set_other number t c count 0 ne in
-          let numbered : (c : ℕ) → (get_or number c 0 ≡ 65535 → ⊥) → c ≢ t = λ c un e. un (ap (λ x. get_or number x 0) e ∙ top_un) in
-          let done_other : (k : ℕ) → k < count → get_or order k 0 ≢ t = λ k h. numbered (get_or order k 0) (λ u. omega (arith, u, w.done_num k h, w.room, w.small)) in
-          record {
-            acyclic = w.acyclic;
-            small = w.small;
-            long_number = simp length-set w.long_number;
-            long_stack = w.long_stack;
-            long_order = simp length-set w.long_order;
-            room = omega (arith, w.room);
-            at_goal = λ h. w.at_goal some;
-            open_in = λ k h. w.open_in k (omega arith);
-            open_un = λ k h. other (get_or stack k 0) (λ e. let q = ap w.acyclic.rank e in omega (arith, q, w.chain k (height - 1) h (omega arith))) ∙ w.open_un k (omega arith);
-            chain = λ j k a b. w.chain j k a (omega arith);
-            open_reached = λ k h. w.open_reached k (omega arith);
-            done_in = each_more (λ k c. c < n) order count t within w.done_in top_in;
-            done_num = each_more (λ k c. get_or (set number t count) c 0 ≡ k) order count t within (λ k h. other (get_or order k 0) (done_other k h) ∙ w.done_num k h) fresh;
-            num_done = λ c h un. by_cell within fresh other c h un (cases_eq c t);
-            done_first = λ k p h. each_more (λ k c. (p : ℕ) → Premise (leads c) p → get_or (set number t count) p 0 < k) order count t within
-                (λ k h p is. let q = w.done_first k p h is in let ne : p ≢ t = numbered p (λ u. omega (arith, u, q, h, w.room, w.small)) in let r = other p ne in omega (arith, q, r))
-                (λ p is. let q = w.num_done p (w.acyclic.inside t p top_in is) (closed p is) in let r = other p (numbered p (closed p is)) in omega (arith, q.0, r))
-                k h p;
-            done_reached = each_more (λ k c. Reached leads goal c) order count t within w.done_reached (w.open_reached (height - 1) (omega arith));
-            ended = λ h. (omega arith, last within h);
-          }
-        where
-          last : count < length order → height - 1 ≡ 0 → get_or (set order count (get_or stack (height - 1) 0)) (count + 1 - 1) 0 ≡ goal
-          last within h =
-              let e : count + 1 - 1 ≡ count = omega arith in
-              ap (λ k. get_or (set order count (get_or stack (height - 1) 0)) k 0) e ∙ get_or-set_same order count (get_or stack (height - 1) 0) 0 within ∙ ap (λ k. get_or stack k 0) h ∙ w.at_goal some
+    pub emit : ((p : ℕ) → Premise (leads top) p → number_in numbers p ≡ None → ⊥) → Walking (set numbers top (Some (length order))) rest (order ++ top ∷ [])
+    emit closed =
+        let within : top < length numbers = omega (arith, w.long, w.small, top_in) in
+        let made : number_in (set numbers top (Some (length order))) top ≡ Some (length order) = get_or-set_same numbers top (Some (length order)) None within in
+        let top_un = all_last (λ c. number_in numbers c ≡ None) rest top w.open_un in
+        let other : (c : ℕ) → c ≢ top → number_in (set numbers top (Some (length order))) c ≡ number_in numbers c = λ c ne. get_or-set_other numbers top c (Some (length order)) None ne in
+        let kept : (c k : ℕ) → number_in numbers c ≡ Some k → number_in (set numbers top (Some (length order))) c ≡ Some k =
+        λ c k e. other c (λ is. let q : None ≡ Some k = sym top_un ∙ ap (number_in numbers) (sym is) ∙ e in cc) ∙ e in
+        record {
+          acyclic = w.acyclic;
+          small = w.small;
+          long = length-set numbers top (Some (length order)) ∙ w.long;
+          room = omega (arith, w.room, length_push rest top, length_push order top);
+          open_in = all_front (λ c. c < n) rest top w.open_in;
+          open_un = λ k d h.
+              other (get_or rest k d) (λ e. let q = ap w.acyclic.rank e in omega (arith, q, pairs_last (λ b c. w.acyclic.rank c < w.acyclic.rank b) rest top w.chain k d h))
+              ∙ all_front (λ c. number_in numbers c ≡ None) rest top w.open_un k d h;
+          open_reached = all_front (Reached leads goal) rest top w.open_reached;
+          chain = pairs_front (λ b c. w.acyclic.rank c < w.acyclic.rank b) rest top w.chain;
+          done_in = All-push (λ c. c < n) order top w.done_in top_in;
+          done_reached = All-push (Reached leads goal) order top w.done_reached (all_last (Reached leads goal) rest top w.open_reached);
+          done_num = each_push (λ k c. number_in (set numbers top (Some (length order))) c ≡ Some k) order top (λ k h. kept (get_or order k 0) k (w.done_num k h)) made;
+          num_done = λ c k e. by made other c k e (cases_eq c top);
+          done_first = λ k p h. each_push (λ k c. (p : ℕ) → Premise (leads c) p → (j : ℕ) × (j < k) × (number_in (set numbers top (Some (length order))) p ≡ Some j)) order top
+              (λ k h p is. let q = w.done_first k p h is in (q.0, q.1, kept p q.0 q.2))
+              (λ p is. let q = some_from (number_in numbers p) (closed p is) in (q.0, (w.num_done p q.0 q.1).0, kept p q.0 q.1))
+              k h p;
+          at_goal = first_kept rest top goal w.at_goal;
+          ended = λ e. (omega (arith, length_push order top), get_or_push order top 0 (length (order ++ top ∷ []) - 1) (omega (arith, length_push order top)) ∙ first_only rest top goal e w.at_goal);
+        }
+      where
+        by : number_in (set numbers top (Some (length order))) top ≡ Some (length order) → ((c : ℕ) → c ≢ top → number_in (set numbers top (Some (length order))) c ≡ number_in numbers c) → (c k : ℕ) → number_in (set numbers top (Some (length order))) c ≡ Some k → (c ≡ top) ⊎ (c ≡ top → ⊥) → (k < length (order ++ top ∷ [])) × (get_or (order ++ top ∷ []) k 0 ≡ c)
+        by made other c k e (inl is) =
+            let q : Some (length order) ≡ Some k = sym made ∙ ap (number_in (set numbers top (Some (length order)))) (sym is) ∙ e in
+            let last : length order ≡ k = cc in
+            (omega (arith, last, length_push order top), get_or_push order top 0 k last ∙ sym is)
+        by made other c k e (inr ne) =
+            let r = w.num_done c k (sym (other c ne) ∙ e) in
+            (omega (arith, r.0, length_push order top), get_or_append_left order (top ∷ []) 0 k r.0 ∙ r.1)
 
-          by_cell : count < length order → get_or (set number (get_or stack (height - 1) 0) count) (get_or stack (height - 1) 0) 0 ≡ count → ((c : ℕ) → c ≢ get_or stack (height - 1) 0 → get_or (set number (get_or stack (height - 1) 0) count) c 0 ≡ get_or number c 0) → (c : ℕ) → c < n → (get_or (set number (get_or stack (height - 1) 0) count) c 0 ≡ 65535 → ⊥) → (c ≡ get_or stack (height - 1) 0) ⊎ (c ≡ get_or stack (height - 1) 0 → ⊥) → (get_or (set number (get_or stack (height - 1) 0) count) c 0 < count + 1) × (get_or (set order count (get_or stack (height - 1) 0)) (get_or (set number (get_or stack (height - 1) 0) count) c 0) 0 ≡ c)
-          by_cell within fresh other c h un (inl e) =
-              let q : get_or (set number (get_or stack (height - 1) 0) count) c 0 ≡ count = ap (λ x. get_or (set number (get_or stack (height - 1) 0) count) x 0) e ∙ fresh in
-              (omega (arith, q), ap (λ k. get_or (set order count (get_or stack (height - 1) 0)) k 0) q ∙ get_or-set_same order count (get_or stack (height - 1) 0) 0 within ∙ sym e)
-          by_cell within fresh other c h un (inr ne) =
-              let q = other c ne in
-              let r = w.num_done c h (λ u. un (q ∙ u)) in
-              let off : get_or number c 0 ≢ count = λ e. omega (arith, e, r.0) in
-              (omega (arith, q, r.0), ap (λ k. get_or (set order count (get_or stack (height - 1) 0)) k 0) q ∙ get_or-set_other order count (get_or number c 0) (get_or stack (height - 1) 0) 0 off ∙ r.1)
+  -- by what `last` gives of the stack
+  module _ {numbers : List (Option ℕ)} {stack order : List ℕ} (w : Walking numbers stack order) (top : ℕ) (is_top : Some top ≡ slice_get stack (length stack - 1)) where
+    pub pushed : (p : ℕ) → open_premise numbers (leads top) ≡ Some p → Walking numbers (stack ++ p ∷ []) order
+    pushed p e =
+        let split = from_last stack top is_top in
+        let r = open_some numbers (leads top) p e in
+        subst (λ s. Walking numbers (s ++ p ∷ []) order) (sym split) (push (take (length stack - 1) stack) top (subst (λ s. Walking numbers s order) split w) p r.0 r.1)
 
-  pub finish : {number stack order : List ℕ} {height count : ℕ} → Walking number stack order height count → height ≤ 0 → Ordered leads n goal number order count
-  finish {number} {stack} {order} {height} {count} w done =
+    pub emitted : open_premise numbers (leads top) ≡ None → Walking (set numbers top (Some (length order))) (take (length stack - 1) stack) (order ++ top ∷ [])
+    emitted e = emit (take (length stack - 1) stack) top (subst (λ s. Walking numbers s order) (from_last stack top is_top) w) (open_none numbers (leads top) e)
+
+  pub finish : {numbers : List (Option ℕ)} {stack order : List ℕ} → Walking numbers stack order → length stack ≤ 0 → Ordered leads n goal numbers order
+  finish {numbers} {stack} {order} w done =
       let e = w.ended (omega arith) in
       record {
         some = e.0;
         few = omega (arith, w.room);
-        inside = w.done_in;
+        inside = λ k h. w.done_in k 0 h;
         numbered = w.done_num;
-        first = λ k p h is. let q = w.done_first k p h is in (q, (w.num_done p (w.acyclic.inside (get_or order k 0) p (w.done_in k h) is) (λ u. omega (arith, u, q, h, w.room, w.small))).1);
-        reached = w.done_reached;
+        first = λ k p h is. let q = w.done_first k p h is in (q.0, q.1, q.2, (w.num_done p q.0 q.2).1);
+        reached = λ k h. w.done_reached k 0 h;
         last = e.1;
       }

@@ -1,15 +1,17 @@
 -- The steps of a grant.
 use Rattle.std.specs.Prelude.{◌≡◌, ℕ, suc, ◌-◌, ◌<◌, cond, List, [], ◌∷◌, ◌++◌, map, length, drop, Some, None, Option, ◌==◌, ◌≢◌, slice_index, slice_index_or}
+use Rattle.std.specs.Option.{unwrap_or}
 use Rattle.rules.specs.declared.memberships.Step.{Step}
 use Rattle.walk.specs.declared.reasons.CellStep.{CellStep}
-use Rattle.walk.specs.Walk.{Premise, Reached}
+use Rattle.walk.specs.Walk.{number_in, Premise, Reached}
 
-abbrev pub number_of : List ℕ → Option ℕ → ℕ
-number_of number None = 0
-number_of number (Some c) = slice_index number c
+-- the number of a premise, 0 for none
+abbrev pub number_of : List (Option ℕ) → Option ℕ → ℕ
+number_of numbers None = 0
+number_of numbers (Some c) = unwrap_or (number_in numbers c) 0
 
-abbrev pub numbered : List ℕ → CellStep → Step
-numbered number w = record { place = w.place; member = w.member; middle = w.middle; first = number_of number w.first; second = number_of number w.second }
+abbrev pub numbered : List (Option ℕ) → CellStep → Step
+numbered numbers w = record { place = w.place; member = w.member; middle = w.middle; first = number_of numbers w.first; second = number_of numbers w.second }
 
 -- the first place of a cell in a list
 unfoldable pub place_in : List ℕ → ℕ → ℕ

@@ -15,9 +15,6 @@ pub struct CellStep {
 
 // A reason for each cell of a table.
 pub trait Reasons {
-    // What they are to be like for them to be read.
-    ghost ready: { Self → Type 0 };
-
     // How many cells there are.
     ghost cells: { Self → ℕ };
 
@@ -25,7 +22,6 @@ pub trait Reasons {
     ghost leads: { Self → ℕ → CellStep };
 
     fn step_of(&self, cell: u16) -> CellStep
-        requires ready { ready self.now }
-        requires inside { cell < cells self.now }
+        requires { cell < cells self.now }
         ensures { result ≡ leads self.now cell };
 }
