@@ -23,7 +23,7 @@ module _ {X : Type 0} (f : ℕ → X) (order : List ℕ) (k : ℕ) (in_order : k
   pub wrote_more : (now : List X) → now ≡ map f (take k order) ++ drop k olds → (x : X) → x ≡ f (get_or order k 0) → set now k x ≡ map f (take (k + 1) order) ++ drop (k + 1) olds
   wrote_more now is x e = let long : length (map f (take k order)) ≡ k = length-map (take k order) f ∙ length-take-le k order (omega arith) in let z : k - k ≡ 0 = omega arith in rw (is, set-append_right (map f (take k order)) (drop k olds) k k x long (omega arith), z, drop_more olds k x room, e, map_more f order k 0 in_order, append_assoc) refl
 
-module _ (leads : ℕ → CellStep) (n goal : ℕ) {numbers : List (Option ℕ)} {order : List ℕ} (o : Ordered leads n goal numbers order) where
+module _ {leads : ℕ → CellStep} {n goal : ℕ} {numbers : List (Option ℕ)} {order : List ℕ} (o : Ordered leads n goal numbers order) where
   alone : (j k : ℕ) → j < length order → k < length order → get_or order j 0 ≡ get_or order k 0 → j ≡ k
   alone j k a b e = let q : Some j ≡ Some k = sym (o.numbered j a) ∙ ap (number_in numbers) e ∙ o.numbered k b in cc
 

@@ -4,7 +4,7 @@ use Rattle.std.specs.List.{All, AllPairs, slice_get}
 use Rattle.std.proofs.lemmas.Bool.{cases_eq, cases_lt, eqb-true}
 use Rattle.std.proofs.lemmas.Bool.Decides.{Decides-eqb}
 use Rattle.std.proofs.lemmas.List.{get_or-set_same, get_or-set_other, get_or_append_left, get_or-append_right, get_or_push, length_push, get_or-replicate, take_more, take_all, length-append, length-set, get_or_default, get_or_past, length-replicate}
-use Rattle.std.proofs.lemmas.List.Elements.{All-append, All-push, All-nil}
+use Rattle.std.proofs.lemmas.List.Elements.{All-append, All-push, All-nil, All-pop}
 use Rattle.std.proofs.lemmas.List.Quantifiers.{all_pairs_push}
 use Rattle.std.proofs.lemmas.List.Folds.{Any-from_list_any}
 use Rattle.std.proofs.lemmas.Map.Made.{IsDistinct-from_AllPairs}
@@ -31,7 +31,7 @@ few_below n xs apart low =
     omega (arith, e, a.3, low a.0 a.1 a.2))
 
 -- the last element, apart
-pub from_last : (xs : List ℕ) (t : ℕ) → Some t ≡ slice_get xs (length xs - 1) → xs ≡ take (length xs - 1) xs ++ t ∷ []
+from_last : (xs : List ℕ) (t : ℕ) → Some t ≡ slice_get xs (length xs - 1) → xs ≡ take (length xs - 1) xs ++ t ∷ []
 from_last xs t e =
     let within = slice_get_within xs (length xs - 1) t (sym e) in
     let whole : length xs - 1 + 1 ≡ length xs = omega (arith, within) in
@@ -47,12 +47,6 @@ each_push P xs v old new k a = by (cases_lt k (length xs))
     by (inr b) = let e : length xs ≡ k = omega (arith, length_push xs v) in subst (λ i. P i (get_or (xs ++ v ∷ []) i 0)) e (subst (P (length xs)) (sym (get_or_push xs v 0 (length xs) refl)) new)
 
 -- and one less
-all_front : (P : ℕ → Type 0) (xs : List ℕ) (t : ℕ) → All P (xs ++ t ∷ []) → All P xs
-all_front P xs t h k d a = subst P (get_or_append_left xs (t ∷ []) d k a) (h k d (omega (arith, length_push xs t)))
-
-all_last : (P : ℕ → Type 0) (xs : List ℕ) (t : ℕ) → All P (xs ++ t ∷ []) → P t
-all_last P xs t h = subst P (get_or_push xs t 0 (length xs) refl) (h (length xs) 0 (omega (arith, length_push xs t)))
-
 pairs_front : (R : ℕ → ℕ → Type 0) (xs : List ℕ) (t : ℕ) → AllPairs R (xs ++ t ∷ []) → AllPairs R xs
 pairs_front R xs t h i j d a b = subst (λ x. R x (get_or xs j d)) (get_or_append_left xs (t ∷ []) d i (omega arith)) (subst (R (get_or (xs ++ t ∷ []) i d)) (get_or_append_left xs (t ∷ []) d j b) (h i j d a (omega (arith, length_push xs t))))
 
@@ -138,7 +132,7 @@ module _ (leads : ℕ → CellStep) (n goal : ℕ) where
 
   module _ {numbers : List (Option ℕ)} (rest : List ℕ) (top : ℕ) {order : List ℕ} (w : Walking numbers (rest ++ top ∷ []) order) where
     top_in : top < n
-    top_in = all_last (λ c. c < n) rest top w.open_in
+    top_in = (All-pop (λ c. c < n) (rest ++ top ∷ []) rest (Some top) refl w.open_in).1
 
     pub push : (p : ℕ) → Premise (leads top) p → number_in numbers p ≡ None → Walking numbers (rest ++ top ∷ [] ++ p ∷ []) order
     push p premise un =
@@ -155,7 +149,7 @@ module _ (leads : ℕ → CellStep) (n goal : ℕ) where
           room = fits w.acyclic numbers (stack ++ p ∷ []) order open_in open_un chain w.done_in w.done_num;
           open_in = open_in;
           open_un = open_un;
-          open_reached = All-push (Reached leads goal) stack p w.open_reached (onward (all_last (Reached leads goal) rest top w.open_reached) premise);
+          open_reached = All-push (Reached leads goal) stack p w.open_reached (onward ((All-pop (Reached leads goal) (rest ++ top ∷ []) rest (Some top) refl w.open_reached).1) premise);
           chain = chain;
           done_in = w.done_in;
           done_reached = w.done_reached;
@@ -171,7 +165,7 @@ module _ (leads : ℕ → CellStep) (n goal : ℕ) where
     emit closed =
         let within : top < length numbers = omega (arith, w.long, w.small, top_in) in
         let made : number_in (set numbers top (Some (length order))) top ≡ Some (length order) = get_or-set_same numbers top (Some (length order)) None within in
-        let top_un = all_last (λ c. number_in numbers c ≡ None) rest top w.open_un in
+        let top_un = (All-pop (λ c. number_in numbers c ≡ None) (rest ++ top ∷ []) rest (Some top) refl w.open_un).1 in
         let other : (c : ℕ) → c ≢ top → number_in (set numbers top (Some (length order))) c ≡ number_in numbers c = λ c ne. get_or-set_other numbers top c (Some (length order)) None ne in
         let kept : (c k : ℕ) → number_in numbers c ≡ Some k → number_in (set numbers top (Some (length order))) c ≡ Some k =
         λ c k e. other c (λ is. let q : None ≡ Some k = sym top_un ∙ ap (number_in numbers) (sym is) ∙ e in cc) ∙ e in
@@ -180,14 +174,14 @@ module _ (leads : ℕ → CellStep) (n goal : ℕ) where
           small = w.small;
           long = length-set numbers top (Some (length order)) ∙ w.long;
           room = omega (arith, w.room, length_push rest top, length_push order top);
-          open_in = all_front (λ c. c < n) rest top w.open_in;
+          open_in = (All-pop (λ c. c < n) (rest ++ top ∷ []) rest (Some top) refl w.open_in).0;
           open_un = λ k d h.
               other (get_or rest k d) (λ e. let q = ap w.acyclic.rank e in omega (arith, q, pairs_last (λ b c. w.acyclic.rank c < w.acyclic.rank b) rest top w.chain k d h))
-              ∙ all_front (λ c. number_in numbers c ≡ None) rest top w.open_un k d h;
-          open_reached = all_front (Reached leads goal) rest top w.open_reached;
+              ∙ (All-pop (λ c. number_in numbers c ≡ None) (rest ++ top ∷ []) rest (Some top) refl w.open_un).0 k d h;
+          open_reached = (All-pop (Reached leads goal) (rest ++ top ∷ []) rest (Some top) refl w.open_reached).0;
           chain = pairs_front (λ b c. w.acyclic.rank c < w.acyclic.rank b) rest top w.chain;
           done_in = All-push (λ c. c < n) order top w.done_in top_in;
-          done_reached = All-push (Reached leads goal) order top w.done_reached (all_last (Reached leads goal) rest top w.open_reached);
+          done_reached = All-push (Reached leads goal) order top w.done_reached ((All-pop (Reached leads goal) (rest ++ top ∷ []) rest (Some top) refl w.open_reached).1);
           done_num = each_push (λ k c. number_in (set numbers top (Some (length order))) c ≡ Some k) order top (λ k h. kept (get_or order k 0) k (w.done_num k h)) made;
           num_done = λ c k e. by made other c k e (cases_eq c top);
           done_first = λ k p h. each_push (λ k c. (p : ℕ) → Premise (leads c) p → (j : ℕ) × (j < k) × (number_in (set numbers top (Some (length order))) p ≡ Some j)) order top
@@ -207,26 +201,37 @@ module _ (leads : ℕ → CellStep) (n goal : ℕ) where
             let r = w.num_done c k (sym (other c ne) ∙ e) in
             (omega (arith, r.0, length_push order top), get_or_append_left order (top ∷ []) 0 k r.0 ∙ r.1)
 
-  -- by what `last` gives of the stack
-  module _ {numbers : List (Option ℕ)} {stack order : List ℕ} (w : Walking numbers stack order) (top : ℕ) (is_top : Some top ≡ slice_get stack (length stack - 1)) where
-    pub pushed : (p : ℕ) → open_premise numbers (leads top) ≡ Some p → Walking numbers (stack ++ p ∷ []) order
-    pushed p e =
-        let split = from_last stack top is_top in
-        let r = open_some numbers (leads top) p e in
-        subst (λ s. Walking numbers (s ++ p ∷ []) order) (sym split) (push (take (length stack - 1) stack) top (subst (λ s. Walking numbers s order) split w) p r.0 r.1)
+-- by what the calls of an iteration give
+module _ {leads : ℕ → CellStep} {n goal : ℕ} {numbers : List (Option ℕ)} {stack order : List ℕ} (w : Walking leads n goal numbers stack order) {xs : List ℕ} (same : xs ≡ stack) {top : ℕ} (last : Some top ≡ slice_get xs (length xs - 1)) {step : CellStep} (is_step : step ≡ leads top) {found : Option ℕ} (is_found : found ≡ open_premise numbers step) where
+  split : stack ≡ take (length stack - 1) stack ++ top ∷ []
+  split = from_last stack top (subst (λ s. Some top ≡ slice_get s (length s - 1)) same last)
 
-    pub emitted : open_premise numbers (leads top) ≡ None → Walking (set numbers top (Some (length order))) (take (length stack - 1) stack) (order ++ top ∷ [])
-    emitted e = emit (take (length stack - 1) stack) top (subst (λ s. Walking numbers s order) (from_last stack top is_top) w) (open_none numbers (leads top) e)
+  split_walk : Walking leads n goal numbers (take (length stack - 1) stack ++ top ∷ []) order
+  split_walk = subst (λ s. Walking leads n goal numbers s order) split w
 
-  pub finish : {numbers : List (Option ℕ)} {stack order : List ℕ} → Walking numbers stack order → length stack ≤ 0 → Ordered leads n goal numbers order
-  finish {numbers} {stack} {order} w done =
-      let e = w.ended (omega arith) in
-      record {
-        some = e.0;
-        few = omega (arith, w.room);
-        inside = λ k h. w.done_in k 0 h;
-        numbered = w.done_num;
-        first = λ k p h is. let q = w.done_first k p h is in (q.0, q.1, q.2, (w.num_done p q.0 q.2).1);
-        reached = λ k h. w.done_reached k 0 h;
-        last = e.1;
-      }
+  found_is : open_premise numbers (leads top) ≡ found
+  found_is = sym (is_found ∙ ap (open_premise numbers) is_step)
+
+  pub pushed : {p : ℕ} → found ≡ Some p → Walking leads n goal numbers (stack ++ p ∷ []) order
+  pushed {p} e =
+      let r = open_some numbers (leads top) p (found_is ∙ e) in
+      subst (λ s. Walking leads n goal numbers (s ++ p ∷ []) order) (sym split) (push leads n goal (take (length stack - 1) stack) top split_walk p r.0 r.1)
+
+  pub room_for : {p : ℕ} → found ≡ Some p → length stack < 32768
+  room_for {p} e = let after = pushed e in omega (arith, after.room, w.small, length_push stack p)
+
+  pub emitted : found ≡ None → Walking leads n goal (set numbers top (Some (length order))) (take (length stack - 1) stack) (order ++ top ∷ [])
+  emitted e = emit leads n goal (take (length stack - 1) stack) top split_walk (open_none numbers (leads top) (found_is ∙ e))
+
+pub finish : {leads : ℕ → CellStep} {n goal : ℕ} {numbers : List (Option ℕ)} {stack order : List ℕ} → Walking leads n goal numbers stack order → length stack ≤ 0 → Ordered leads n goal numbers order
+finish {leads} {n} {goal} {numbers} {stack} {order} w done =
+    let e = w.ended (omega arith) in
+    record {
+      some = e.0;
+      few = omega (arith, w.room);
+      inside = λ k h. w.done_in k 0 h;
+      numbered = w.done_num;
+      first = λ k p h is. let q = w.done_first k p h is in (q.0, q.1, q.2, (w.num_done p q.0 q.2).1);
+      reached = λ k h. w.done_reached k 0 h;
+      last = e.1;
+    }

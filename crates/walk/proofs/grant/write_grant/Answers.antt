@@ -4,4 +4,4 @@ use Rattle.walk.proofs.grant.write_grant.Goals as goal
 pub returns-clause-granted : goal.returns-clause-granted
 returns-clause-granted g c =
     rw c.len.ensures.value
-    (granted (g.G.Reasons.leads c.args.reasons.now) (g.G.Reasons.cells c.args.reasons.now) c.args.goal c.put_in_order-order.ensures c.args.steps.now c.write_steps.new.steps c.write_steps.ensures)
+    (granted c.put_in_order-order.ensures c.args.steps.now c.write_steps.new.steps c.write_steps.ensures)
