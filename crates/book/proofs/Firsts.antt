@@ -1,8 +1,25 @@
--- The steps of a search for the first that passes.
-use Rattle.std.proofs.Common.{◌≡◌, ℕ, suc, ◌+◌, ◌<◌, ◌≤◌, Bool, true, false, cond, ltb, List, ◌∷◌, length, get_or, drop, Some, None, position, sym, refl, ap, arith}
+-- The first that passes, by the library's words, and the steps of a search for it.
+use Rattle.std.proofs.Common.{◌≡◌, ℕ, suc, ◌+◌, ◌<◌, ◌≤◌, Bool, true, false, cond, eqb, ltb, List, [], ◌∷◌, ◌++◌, length, get_or, drop, Some, None, position, sym, refl, ap, arith}
+use Rattle.std.specs.List.{position_or_len}
 use Rattle.std.proofs.lemmas.List.{at_drop_more, at_drop_all}
+use Rattle.std.proofs.lemmas.List.Folds.{position_or_len_push}
 use Rattle.std.proofs.lemmas.List.Recursion.{is_position_or_len}
+use Rattle.std.proofs.lemmas.Bool.{cond_both}
 use Rattle.book.specs.Plain.{first, place}
+
+module _ {X : Type 0} (p : X → Bool) where
+  first_is : (xs : List X) → first p xs ≡ position_or_len p xs
+  first_is = is_position_or_len (first p) p refl (λ x xs. let e : suc (first p xs) ≡ 1 + first p xs = omega arith in ap (cond (p x) 0) e)
+
+  pub place_is : (xs : List X) → position p xs ≡ place p xs
+  place_is xs = ap (λ n. cond (ltb n (length xs)) (Some n) None) (sym (first_is xs))
+
+  pub first_push : (xs : List X) (y : X) → first p (xs ++ y ∷ []) ≡ cond (eqb (first p xs) (length xs)) (length xs + cond (p y) 0 1) (first p xs)
+  first_push xs y = rw (first_is xs, first_is (xs ++ y ∷ [])) (position_or_len_push p xs y)
+
+  pub first_most : (xs : List X) → first p xs ≤ length xs
+  first_most [] = omega arith
+  first_most (x ∷ xs) = cond_both (p x) 0 (suc (first p xs)) (λ n. n ≤ suc (length xs)) (λ e. omega arith) (λ e. omega (arith, first_most xs))
 
 module _ {X : Type 0} (p : X → Bool) (xs : List X) (i : ℕ) where
   at_first : (d : X) → i < length xs → first p (drop i xs) ≡ cond (p (get_or xs i d)) 0 (suc (first p (drop (i + 1) xs)))
@@ -16,10 +33,3 @@ module _ {X : Type 0} (p : X → Bool) (xs : List X) (i : ℕ) where
 
   pub first_none : length xs ≤ i → first p xs ≡ i + first p (drop i xs) → i ≡ first p xs
   first_none h inv = let s = at_drop_all (first p) xs i h in omega (arith, s)
-
--- the place of the first that passes, by the library's word
-pub place_is : {X : Type 0} (p : X → Bool) (xs : List X) → position p xs ≡ place p xs
-place_is p xs = ap (λ n. cond (ltb n (length xs)) (Some n) None) (sym (is_position_or_len (first p) p refl step xs))
-  where
-    step : (x : _) (ys : List _) → first p (x ∷ ys) ≡ cond (p x) 0 (1 + first p ys)
-    step x ys = let e : suc (first p ys) ≡ 1 + first p ys = omega arith in ap (cond (p x) 0) e

@@ -53,23 +53,23 @@ impl Register {
 
     // The number of the word among the names of its kind, if it is one of them.
     pub fn find<N: NameNumber>(&self, word: &[u8]) -> Option<N>
-        ensures { option_map N.number result ≡ name_number (names_of N.kind self.now) word.now }
+        ensures { option_map N.number result ≡ name_number (names_of N.KIND self.now) word.now }
     {
-        number_of(self.names(N::kind()), word).map(|n| N::of(n))
+        number_of(self.names(N::KIND), word).map(|n| N::of(n))
     }
 
     // How the name of this number is spelled.
     pub fn spell<N: NameNumber>(&self, n: N) -> Option<&[u8]>
-        ensures value { option_map (λ x. x.now) result ≡ slice_get (names_of N.kind self.now) (N.number n) }
+        ensures value { option_map (λ x. x.now) result ≡ slice_get (names_of N.KIND self.now) (N.number n) }
         ensures short { IfSome result (λ s. length s.now ≤ 24) }
     {
-        spelling_of(self.names(N::kind()), n.number())
+        spelling_of(self.names(N::KIND), n.number())
     }
 
     // Whether a name of this number is enrolled.
     pub fn has<N: NameNumber>(&self, n: N) -> bool
-        ensures { result ≡ nat_lt (N.number n) (length (names_of N.kind self.now)) }
+        ensures { result ≡ nat_lt (N.number n) (length (names_of N.KIND self.now)) }
     {
-        usize::from(n.number()) < self.names(N::kind()).len()
+        usize::from(n.number()) < self.names(N::KIND).len()
     }
 }

@@ -8,12 +8,11 @@ use credential::{Entity, RoleName};
 
 // The number of a name among those of its kind.
 pub trait NameNumber: Copy {
-    ghost kind: { NameKind };
+    ghost KIND: { NameKind };
+
+    const KIND: Kind;
 
     ghost number: { Self → ℕ };
-
-    fn kind() -> Kind
-        ensures { result ≡ kind };
 
     fn of(n: u8) -> Self
         ensures { number result ≡ n };
@@ -23,13 +22,11 @@ pub trait NameNumber: Copy {
 }
 
 impl NameNumber for Entity {
-    ghost kind = { kinds.Entity };
+    ghost KIND = { kinds.Entity };
+
+    const KIND: Kind = Kind::Entity;
 
     ghost number = { λ e. e.0 };
-
-    fn kind() -> Kind {
-        Kind::Entity
-    }
 
     fn of(n: u8) -> Entity {
         Entity(n)
@@ -42,13 +39,11 @@ impl NameNumber for Entity {
 }
 
 impl NameNumber for RoleName {
-    ghost kind = { kinds.RoleName };
+    ghost KIND = { kinds.RoleName };
+
+    const KIND: Kind = Kind::RoleName;
 
     ghost number = { λ r. r.0 };
-
-    fn kind() -> Kind {
-        Kind::RoleName
-    }
 
     fn of(n: u8) -> RoleName {
         RoleName(n)
