@@ -1,5 +1,5 @@
 -- A register and a book as the plain book, and their answers by number.
-use Rattle.std.specs.Prelude.{◌≡◌, ℕ, List, ◌∷◌, Ok, Err, vec_items, Option, Result}
+use Rattle.std.specs.Prelude.{◌≡◌, ℕ, List, ◌∷◌, length, Ok, Err, vec_items, Option, Result}
 use Rattle.std.specs.Str.{bytes_eq}
 use Rattle.credential.specs.Same.{Credential}
 use Rattle.book.specs.declared.refusal.Kind.{Kind}
@@ -22,6 +22,10 @@ role_names g = vec_items g.role_names.names
 abbrev pub names_of : Kind → Register → List (List ℕ)
 names_of kind.Entity g = entities g
 names_of kind.RoleName g = role_names g
+
+-- what is told of how many entities and role names there are, at a register
+abbrev pub at_counts : {A : Type 0} → (ℕ → ℕ → A) → Register → A
+at_counts f g = f (length (entities g)) (length (role_names g))
 
 abbrev pub listed : Book → List Credential
 listed b = vec_items b.credentials

@@ -2,7 +2,7 @@
 ghost use Rattle.std.specs.Prelude.{◌≡◌, ◌≤◌, [], length, IfOk, nat_lt};
 ghost use Rattle.credential.specs.Same.{says};
 ghost use Rattle.book.specs.Plain.{place, role_enrolled, body_enrolled, claim_enrolled, record_in_range, in_range, answer, next, add, withdraw};
-ghost use Rattle.book.specs.Kept.{entities, role_names, listed, plain, place_said, StandsAfter};
+ghost use Rattle.book.specs.Kept.{at_counts, entities, listed, plain, place_said, StandsAfter};
 
 use super::*;
 use crate::refusal::Refusal;
@@ -22,13 +22,13 @@ impl Register {
     }
 
     pub fn has_role(&self, r: Role) -> bool
-        ensures { result ≡ role_enrolled (length (entities self.now)) (length (role_names self.now)) r }
+        ensures { result ≡ at_counts role_enrolled self.now r }
     {
         self.has(r.entity) && self.has(r.name)
     }
 
     fn has_body<W: Copy>(&self, body: Body<W>) -> bool
-        ensures { result ≡ body_enrolled (length (entities self.now)) (length (role_names self.now)) body }
+        ensures { result ≡ at_counts body_enrolled self.now body }
     {
         match body {
             Body::Member(x, _) => self.has(x),
@@ -40,7 +40,7 @@ impl Register {
 
     // Whether all numbers of the claim are enrolled.
     pub fn has_claim<W: Copy>(&self, claim: Claim<W>) -> bool
-        ensures { result ≡ claim_enrolled (length (entities self.now)) (length (role_names self.now)) claim }
+        ensures { result ≡ at_counts claim_enrolled self.now claim }
     {
         self.has_role(claim.head) && self.has_body(claim.body)
     }
@@ -49,7 +49,7 @@ impl Register {
 fn is_record_in_range(w: Record) -> bool
     ensures { result ≡ record_in_range w }
 {
-    w.ceiling >= -1 && w.distance >= 0 && w.distance <= MOST_POINTS
+    w.ceiling >= -1 && (0..=MOST_POINTS).contains(&w.distance)
 }
 
 fn is_in_range(body: Body<Record>) -> bool

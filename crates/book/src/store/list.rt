@@ -36,7 +36,7 @@ impl<const MOST: usize> NameList<MOST> {
         requires { length word.now ≤ 24 }
         ensures { Puts MOST word.now self.old.names.items result self.new.names.items }
     {
-        if place_of(self.as_slice(), word).is_some() {
+        if number_of(self.as_slice(), word).is_some() {
             return Err(Refusal::AlreadyEnrolled);
         }
         let place = self.len();
@@ -48,19 +48,15 @@ impl<const MOST: usize> NameList<MOST> {
     }
 }
 
-// The place of the word among these names, if it is one of them.
-fn place_of(names: &[Name], word: &[u8]) -> Option<usize>
-    ensures { result ≡ name_number names.now word.now }
-{
-    names.iter().position(|n| word == n.text())
-}
-
 // The number of the word among these names, if it is one of them.
 pub(super) fn number_of(names: &[Name], word: &[u8]) -> Option<u8>
     requires { length names.now ≤ 256 }
     ensures { result ≡ name_number names.now word.now }
 {
-    place_of(names, word).map(|place| place as u8)
+    names
+        .iter()
+        .position(|n| word == n.text())
+        .map(|place| place as u8)
 }
 
 pub(super) fn spelling_of(names: &[Name], n: u8) -> Option<&[u8]>
