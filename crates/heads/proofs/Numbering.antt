@@ -1,13 +1,14 @@
 -- The numbers of the heads, one credential more at a time.
-use Rattle.std.proofs.Common.{◌≡◌, ℕ, suc, ◌+◌, ◌<◌, Bool, true, false, cond, ◌≢◌, List, [], ◌∷◌, ◌++◌, length, get_or, take, set, replicate, Some, None, Option, sym, refl, ap, ◌∙◌, ap₂, inl, inr, append-nil, arith, length-set}
+use Rattle.std.proofs.Common.{◌≡◌, ℕ, suc, ◌+◌, ◌<◌, Bool, true, false, cond, ◌≢◌, List, [], ◌∷◌, ◌++◌, length, get_or, take, set, replicate, Some, None, Option, sym, refl, ap, ◌∙◌, subst, ap₂, inl, inr, append-nil, arith, length-append, length-set}
 use Rattle.std.specs.Option.{option_map}
 use Rattle.std.proofs.lemmas.List.{get_or-set_same, get_or-set_other, get_or-replicate, length-replicate, take_more}
-use Rattle.std.proofs.lemmas.Bool.{ne_eqb}
 use Rattle.scale.specs.Order.{none_some}
 use Rattle.credential.specs.declared.Role.{Role}
 use Rattle.credential.specs.Same.{Credential, same_role}
 use Rattle.rules.specs.Cells.{others, heads, number}
-use Rattle.heads.specs.Index.{noted_as, noted, as_number, slot, Indexed}
+use Rattle.heads.specs.declared.index.HeadIndex.{HeadIndex}
+use Rattle.heads.specs.Slots.{slot}
+use Rattle.heads.specs.Index.{noted_as, noted, Indexed}
 use Rattle.heads.specs.Enrolled.{RoleIn}
 use Rattle.heads.proofs.Roles.{which, numbered_first, numbered_later}
 use Rattle.heads.proofs.Distinct.{Which, skipped, kept, not_first, none_later, others_keeps, others_back}
@@ -79,47 +80,42 @@ slots_apart a b ha hb e =
     role i j = record { entity = record { 0 = i }; name = record { 0 = j } }
 
 -- an index with nothing in it
-pub index_none : (index : List ℕ) (n : ℕ) → n ≡ 2048 → index ≡ replicate n 65535 → Indexed index []
-index_none index n e h = record {
-  long = ap length h ∙ length-replicate n 65535 ∙ e;
-  right = λ r he hn. ap (λ ix. as_number (get_or ix (slot r) 0)) h ∙ ap as_number (get_or-replicate n (slot r) 65535 0 (omega arith));
+pub index_none : (n : ℕ) → n ≡ 2048 → Indexed (record { numbers = replicate n None; count = 0 }) []
+index_none n e = record {
+  long = length-replicate n None ∙ e;
+  right = λ r he hn. get_or-replicate n (slot r) None None (omega arith);
+  count = refl;
 }
 
-module _ (index : List ℕ) (rs : List Role) (ix : Indexed index rs) (r : Role) (known : RoleIn 64 r) where
-  -- the number that stands there
-  pub slot_number : as_number (get_or index (slot r) 0) ≡ number rs r
-  slot_number = ix.right r known.entity known.name
+-- a role that has no number is given the next
+pub index_more : (index : HeadIndex) (rs : List Role) → Indexed index rs → (r : Role) → RoleIn 64 r → (k : ℕ) → k ≡ slot r → get_or index.numbers k None ≡ None → Indexed (record { numbers = set index.numbers k (Some index.count); count = index.count + 1 }) (noted rs r)
+index_more index rs ix r known k here empty = subst (Indexed after) (sym (ap (λ o. noted_as o rs r) absent)) record {
+  long = length-set index.numbers k (Some index.count) ∙ ix.long;
+  right = λ a he hn. by a (record { entity = he; name = hn }) (which r a) (number rs a) refl;
+  count = simp length-append (omega (arith, ix.count));
+}
+  where
+    after : HeadIndex
+    after = record { numbers = set index.numbers k (Some index.count); count = index.count + 1 }
 
-  pub noted_there : (get_or index (slot r) 0 ≡ 65535 → ⊥) → noted rs r ≡ rs
-  noted_there n = ap (λ k. noted_as k rs r) (sym slot_number ∙ ap (λ (v : Bool). cond v None (Some (get_or index (slot r) 0))) (ne_eqb (get_or index (slot r) 0) 65535 n))
+    absent : number rs r ≡ None
+    absent = sym (ix.right r known.entity known.name) ∙ ap (λ j. get_or index.numbers j None) (sym here) ∙ empty
 
-  absent : get_or index (slot r) 0 ≡ 65535 → number rs r ≡ None
-  absent e = sym slot_number ∙ ap as_number e
-
-  pub noted_new : get_or index (slot r) 0 ≡ 65535 → noted rs r ≡ rs ++ (r ∷ [])
-  noted_new e = ap (λ k. noted_as k rs r) (absent e)
-
-  pub index_more : get_or index (slot r) 0 ≡ 65535 → length rs < 65535 → Indexed (set index (slot r) (length rs)) (rs ++ (r ∷ []))
-  index_more e few = record {
-    long = length-set index (slot r) (length rs) ∙ ix.long;
-    right = λ a he hn. by a (record { entity = he; name = hn }) (which r a) (number rs a) refl;
-  }
-    where
-      by : (a : Role) → RoleIn 64 a → Which r a → (n : Option ℕ) → number rs a ≡ n → as_number (get_or (set index (slot r) (length rs)) (slot a) 0) ≡ number (rs ++ (r ∷ [])) a
-      by a h (inl p) n q =
-          ap (λ b. as_number (get_or (set index (slot r) (length rs)) (slot b) 0)) (sym p.0)
-          ∙ ap as_number (get_or-set_same index (slot r) (length rs) 0 (omega (arith, known.entity, known.name, ix.long)))
-          ∙ ap (λ (v : Bool). cond v None (Some (length rs))) (ne_eqb (length rs) 65535 (λ z. absurd (omega (arith, z))))
-          ∙ sym (number_last rs r a (ap (number rs) (sym p.0) ∙ absent e) ∙ ap (λ (v : Bool). cond v (Some (length rs)) None) p.1)
-      by a h (inr p) n q =
-          let other : slot a ≢ slot r = λ z. p.0 (sym (slots_apart a r h known z)) in
-          ap as_number (get_or-set_other index (slot r) (slot a) (length rs) 0 other)
-          ∙ ix.right a h.entity h.name
-          ∙ sym (ends n q)
-        where
-          ends : (n : Option ℕ) → number rs a ≡ n → number (rs ++ (r ∷ [])) a ≡ number rs a
-          ends None q = number_last rs r a q ∙ ap (λ (v : Bool). cond v (Some (length rs)) None) p.1 ∙ sym q
-          ends (Some k) q = number_kept rs r a k q
+    by : (a : Role) → RoleIn 64 a → Which r a → (n : Option ℕ) → number rs a ≡ n → get_or (set index.numbers k (Some index.count)) (slot a) None ≡ number (rs ++ (r ∷ [])) a
+    by a h (inl p) n q =
+        ap (λ j. get_or (set index.numbers k (Some index.count)) j None) (ap slot (sym p.0) ∙ sym here)
+        ∙ get_or-set_same index.numbers k (Some index.count) None (omega (arith, here, known.entity, known.name, ix.long))
+        ∙ ap Some ix.count
+        ∙ sym (number_last rs r a (ap (number rs) (sym p.0) ∙ absent) ∙ ap (λ (v : Bool). cond v (Some (length rs)) None) p.1)
+    by a h (inr p) n q =
+        let other : slot a ≢ k = λ z. p.0 (sym (slots_apart a r h known (z ∙ here))) in
+        get_or-set_other index.numbers k (slot a) (Some index.count) None other
+        ∙ ix.right a h.entity h.name
+        ∙ sym (ends n q)
+      where
+        ends : (n : Option ℕ) → number rs a ≡ n → number (rs ++ (r ∷ [])) a ≡ number rs a
+        ends None q = number_last rs r a q ∙ ap (λ (v : Bool). cond v (Some (length rs)) None) p.1 ∙ sym q
+        ends (Some k) q = number_kept rs r a k q
 
 pub heads_more : (cs : List Credential) (p : ℕ) (c : Credential) → p < length cs → get_or cs p c ≡ c → heads (take (p + 1) cs) ≡ noted (heads (take p cs)) c.head
 heads_more cs p c h e = ap heads (take_more cs p c h ∙ ap (λ d. take p cs ++ (d ∷ [])) e) ∙ heads_end (take p cs) c

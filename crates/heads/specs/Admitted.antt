@@ -1,5 +1,5 @@
 -- Which credentials can be settled.
-use Rattle.std.specs.Prelude.{◌≡◌, ℕ, Bool, true, false, not, ◌&&◌, List, length, is_some, Some, Ok, Err, Result}
+use Rattle.std.specs.Prelude.{◌≡◌, ℕ, Bool, true, false, not, ◌&&◌, List, is_some, Some, Ok, Err, Result}
 use Rattle.credential.specs.declared.Record.{Record}
 use Rattle.credential.specs.declared.Body.{Body}
 use Rattle.credential.specs.declared.Body.TheVariants.{Member, Delegation, Link, Intersection}
@@ -8,8 +8,6 @@ use Rattle.scale.specs.Scale.{Meaning}
 use Rattle.book.specs.Plain.{first, among, claim_enrolled}
 use Rattle.source.specs.declared.sources.Origin.{Origin}
 use Rattle.source.specs.Shows.{Shown, stated, origin_at}
-use Rattle.rules.specs.Cells.{heads}
-use Rattle.heads.specs.Index.{Indexed}
 
 module _ {S : Type 0} (M : Meaning S) where
   -- the scale reads the weight; only a membership has one
@@ -23,7 +21,7 @@ module _ {S : Type 0} (M : Meaning S) where
   abbrev pub bad : ℕ → ℕ → Credential → Bool
   bad E R c = not (claim_enrolled E R c && readable c.body)
 
-  -- all credentials can be settled, and the heads are numbered; or this is the origin of the first that cannot
-  abbrev pub Admits : ℕ → ℕ → List Shown → List ℕ → Result ℕ Origin → Type 0
-  Admits E R xs index (Ok many) = (among (bad E R) (stated xs) ≡ false) × Indexed index (heads (stated xs)) × (many ≡ length (heads (stated xs)))
-  Admits E R xs index (Err o) = (among (bad E R) (stated xs) ≡ true) × (origin_at xs (first (bad E R) (stated xs)) ≡ Some o)
+  -- all credentials can be settled; or this is the origin of the first that cannot
+  abbrev pub Admits : {A : Type 0} → ℕ → ℕ → List Shown → Result A Origin → Type 0
+  Admits E R xs (Ok a) = among (bad E R) (stated xs) ≡ false
+  Admits E R xs (Err o) = (among (bad E R) (stated xs) ≡ true) × (origin_at xs (first (bad E R) (stated xs)) ≡ Some o)

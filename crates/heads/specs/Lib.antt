@@ -1,3 +1,4 @@
 pub mod Admitted
 pub mod Enrolled
 pub mod Index
+pub mod Slots

@@ -1,18 +1,22 @@
 // The index of the heads: the number of each role that is the head of some credential.
-ghost use Rattle.std.specs.Prelude.{◌≡◌, ◌+◌, ◌<◌, ◌≤◌, List, length};
+ghost use Rattle.std.specs.Prelude.{◌≡◌, ◌+◌, ◌<◌, ◌≤◌, [], List};
 ghost use Rattle.credential.specs.declared.Role.{Role as AnyRole};
 ghost use Rattle.heads.specs.Enrolled.{RoleIn};
-ghost use Rattle.heads.specs.Index.{Indexed, slot, head_at, noted};
+ghost use Rattle.heads.specs.Slots.{slot};
 
 use credential::Role;
 
 // A slot for each of 64 entities and 32 role names.
-pub const HEAD_SLOTS: usize = 2048;
-
-// In a slot: the role is no head.
-pub const NO_HEAD: u16 = 65_535;
+const HEAD_SLOTS: usize = 2048;
 
 const ROLE_NAMES: usize = 32;
+
+// The number of each head in its slot, and how many heads there are.
+#[derive(Drop)]
+pub struct HeadIndex {
+    numbers: [Option<u16>; HEAD_SLOTS],
+    count: usize,
+}
 
 fn slot_of(role: Role) -> usize
     requires { RoleIn 64 role }
@@ -21,28 +25,44 @@ fn slot_of(role: Role) -> usize
     role.entity.0 as usize * ROLE_NAMES + role.name.0 as usize
 }
 
-// The number of a head, if the role is one.
-pub fn head_of(index: &[u16], role: Role) -> Option<u16>
-    requires long { length index.now ≡ 2048 }
-    requires known { RoleIn 64 role }
-    ensures { result ≡ head_at index.now role }
-{
-    let h = index[slot_of(role)];
-    if h == NO_HEAD { None } else { Some(h) }
-}
+impl HeadIndex {
+    ghost use Rattle.heads.specs.Index.{Indexed, head_at, head_count, noted};
 
-// Gives a role the next number, unless it has one, and answers how many have.
-pub(crate) fn note_head(index: &mut [u16], many: usize, head: Role) -> usize
-    requires long { length index.old ≡ 2048 }
-    requires room { many < 65535 }
-    requires known { RoleIn 64 head }
-    ensures indexed { (rs : List AnyRole) → Indexed index.old rs → many ≡ length rs → Indexed index.new (noted rs head) × (result ≡ length (noted rs head)) }
-    ensures bound { result ≤ many + 1 }
-{
-    let slot = slot_of(head);
-    if index[slot] != NO_HEAD {
-        return many;
+    pub fn new() -> HeadIndex
+        ensures { Indexed result [] }
+    {
+        HeadIndex {
+            numbers: [None; HEAD_SLOTS],
+            count: 0,
+        }
     }
-    index[slot] = many as u16;
-    many + 1
+
+    // How many heads there are.
+    pub fn count(&self) -> usize
+        ensures { result ≡ head_count self.now }
+    {
+        self.count
+    }
+
+    // The number of a head, if the role is one.
+    pub fn head_of(&self, role: Role) -> Option<u16>
+        requires known { RoleIn 64 role }
+        ensures { result ≡ head_at self.now role }
+    {
+        self.numbers[slot_of(role)]
+    }
+
+    // Gives a role the next number, unless it has one.
+    pub(crate) fn note(&mut self, head: Role)
+        requires room { head_count self.old < 65536 }
+        requires known { RoleIn 64 head }
+        ensures { (rs : List AnyRole) → Indexed self.old rs → Indexed self.new (noted rs head) }
+    {
+        let HeadIndex { numbers, count } = self;
+        let slot = &mut numbers[slot_of(head)];
+        if slot.is_none() {
+            *slot = Some(*count as u16);
+            *count += 1;
+        }
+    }
 }

@@ -2,7 +2,9 @@
 #![tactic(auto)]
 
 pub mod admission;
+pub mod admitted;
 pub mod index;
 
 pub use admission::admit;
-pub use index::{HEAD_SLOTS, NO_HEAD, head_of};
+pub use admitted::Admitted;
+pub use index::HeadIndex;

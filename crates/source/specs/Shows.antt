@@ -4,7 +4,10 @@ use Rattle.std.specs.Option.{option_map}
 use Rattle.std.specs.List.{slice_get}
 use Rattle.credential.specs.Same.{Credential}
 use Rattle.source.specs.declared.sources.Origin.{Origin}
-pub use Rattle.source.specs.declared.sources.Shown.{Shown}
+use Rattle.source.specs.declared.sources.Shown.{Shown as CredentialWithOrigin}
+
+abbrev pub Shown : Type 0
+Shown = CredentialWithOrigin
 
 -- the credentials that are shown, their origins aside
 abbrev pub stated : List Shown → List Credential
