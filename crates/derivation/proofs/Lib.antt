@@ -4,5 +4,6 @@ pub mod Listings
 pub mod Located
 pub mod Places
 pub mod Ranks
+pub mod Reading
 pub mod Rests
 pub mod Trails

@@ -1,14 +1,10 @@
-ghost use Rattle.std.specs.Prelude.{◌≡◌, ℕ, ◌*◌, ◌≤◌, length, take, Some};
-ghost use Rattle.rules.specs.Tables.{table};
-ghost use Rattle.rules.specs.Cells.{heads as heads_of};
-ghost use Rattle.rules.specs.Grants.{Granted};
-ghost use Rattle.rules.specs.Derivation.{Derivation};
+ghost use Rattle.std.specs.Prelude.{ℕ, ◌≤◌, length};
 ghost use Rattle.source.specs.Shows.{stated};
-ghost use Rattle.heads.specs.Enrolled.{AllIn};
-ghost use Rattle.heads.specs.Index.{Indexed};
-ghost use Rattle.derivation.specs.Explained.{Reasoned};
+ghost use Rattle.derivation.specs.Trail.{cell_count};
+ghost use Rattle.derivation.specs.Explained.{Reasoned, Explained};
 
-use crate::trail::{Trail, cell_of};
+use crate::trail::Trail;
+use heads::Admitted;
 use rules::{Membership, Reason, Step};
 use scale::Scale;
 use source::Source;
@@ -16,35 +12,17 @@ use walk::write_grant;
 
 // Writes the steps that the reasons of a settled table lead to from the goal, premises first and goal
 // last, and answers how many they are.
-pub fn explain<'a, R: Source, S: Scale>(
-    source: &'a R,
-    index: &'a [u16],
-    heads: usize,
-    entities: usize,
-    reasons: &'a [Reason],
+pub fn explain<R: Source, S: Scale>(
+    admitted: &Admitted<R>,
+    reasons: &[Reason],
     goal: Membership,
     steps: &mut [Step],
 ) -> usize
-    requires few { entities ≤ 64 }
-    requires known { AllIn entities (stated (R.Source.shows source.now)) }
-    requires short { length (stated (R.Source.shows source.now)) ≤ 512 }
-    requires indexed { Indexed index.now (heads_of (stated (R.Source.shows source.now))) }
-    requires many { heads ≡ length (heads_of (stated (R.Source.shows source.now))) }
-    requires settled { (n : ℕ) × Reasoned S.Scale.meaning entities (stated (R.Source.shows source.now)) reasons.now goal n }
-    requires room { heads * entities ≤ length steps.old }
-    ensures granted { (n : ℕ) → Reasoned S.Scale.meaning entities (stated (R.Source.shows source.now)) reasons.now goal n → Granted S.Scale.meaning entities (stated (R.Source.shows source.now)) n goal steps.old steps.new result }
-    ensures derives { (n : ℕ) (w : S) → Reasoned S.Scale.meaning entities (stated (R.Source.shows source.now)) reasons.now goal n → table S.Scale.meaning entities (stated (R.Source.shows source.now)) n goal ≡ Some w → Derivation S.Scale.meaning (stated (R.Source.shows source.now)) goal w (take result steps.new) }
-    ensures few { result ≤ heads * entities }
+    requires settled { (n : ℕ) × Reasoned S.Scale.meaning admitted.now.entities (stated (R.Source.shows admitted.now.source.now)) reasons.now goal n }
+    requires room { cell_count (stated (R.Source.shows admitted.now.source.now)) admitted.now.entities ≤ length steps.old }
+    ensures { Explained S.Scale.meaning admitted.now.entities (stated (R.Source.shows admitted.now.source.now)) reasons.now goal steps.old steps.new result }
 {
-    let trail = Trail {
-        source,
-        index,
-        reasons,
-        entities,
-        heads,
-    };
-    match cell_of(index, entities, goal.role, goal.member) {
-        Some(cell) => write_grant(&trail, cell, steps),
-        None => unreachable(),
-    }
+    let trail = Trail { admitted, reasons };
+    let cell = trail.cell_of(goal.role, goal.member).unwrap();
+    write_grant(&trail, cell, steps)
 }

@@ -1,43 +1,39 @@
-use Rattle.std.proofs.Common.{length, refl, arith}
+use Rattle.std.proofs.Common.{refl, sym, ◌∙◌}
 use Rattle.source.specs.Shows.{stated}
-use Rattle.rules.specs.Cells.{heads}
 use Rattle.heads.proofs.Fewer.{few_cells}
-use Rattle.derivation.proofs.Explaining.{goal_member, goal_role, ready, acyclic, goal_cell, cell_inside, granted, derives}
+use Rattle.derivation.proofs.Trails.{has_reasons, acyclic}
+use Rattle.derivation.proofs.Explaining.{ground, goal_member, goal_role, goal_cell, cell_inside, explained}
 use Rattle.derivation.proofs.explanation.explain.Goals as goal
 
-pub cell_of-requires : goal.cell_of-requires
-cell_of-requires g c =
-    let cs = stated (g.R.Source.shows c.args.source.now) in
-    let p = c.requires in
-    record {
-      fits = record { roles = heads cs; indexed = p.indexed; few = few_cells c.args.entities (length (heads cs)) cs p.few p.short refl };
-      role = goal_role g.S.Scale.laws g.S.Scale.chooses p.few p.known p.short p.indexed p.many p.settled.1;
-      member = goal_member g.S.Scale.laws g.S.Scale.chooses p.few p.known p.short p.indexed p.many p.settled.1;
-    }
+pub invariant_of-trail : goal.invariant_of-trail
+invariant_of-trail g c =
+    let a = c.args.admitted.now in
+    record { has_reasons = has_reasons (ground g.met.S.Scale.laws g.met.S.Scale.chooses a.known a.short c.requires.settled.1) }
 
-pub write_grant-requires : goal.write_grant-requires
-write_grant-requires g c =
-    let cs = stated (g.R.Source.shows c.args.source.now) in
-    let p = c.requires in
-    record {
-      ready = ready g.S.Scale.laws g.S.Scale.chooses p.few p.known p.short p.indexed p.many p.settled.1;
-      acyclic = acyclic g.S.Scale.laws g.S.Scale.chooses p.few p.known p.short p.indexed p.many p.settled.1;
-      small = few_cells c.args.entities c.args.heads cs p.few p.short p.many;
-      inside = omega (arith, cell_inside g.S.Scale.laws g.S.Scale.chooses p.few p.known p.short p.indexed p.many p.settled.1 c.in-Some.cell c.in-Some.ensures);
-      room = p.room;
-    }
+pub cell_of-requires-clause-role : goal.cell_of-requires-clause-role
+cell_of-requires-clause-role g c = let a = c.args.admitted.now in goal_role g.met.S.Scale.laws g.met.S.Scale.chooses a.known a.short c.requires.settled.1
 
-pub unreachable-requires : goal.unreachable-requires
-unreachable-requires g c =
-    let p = c.requires in
-    goal_cell g.S.Scale.laws g.S.Scale.chooses p.few p.known p.short p.indexed p.many p.settled.1 c.in-None.ensures
+pub cell_of-requires-clause-member : goal.cell_of-requires-clause-member
+cell_of-requires-clause-member g c = let a = c.args.admitted.now in goal_member g.met.S.Scale.laws g.met.S.Scale.chooses a.known a.short c.requires.settled.1
+
+pub unwrap-cell-requires : goal.unwrap-cell-requires
+unwrap-cell-requires g c =
+    let a = c.args.admitted.now in
+    let there = goal_cell g.met.S.Scale.laws g.met.S.Scale.chooses a.known a.short c.requires.settled.1 in
+    rw (c.cell_of.ensures, there.1) refl
+
+pub write_grant-requires-clause-acyclic : goal.write_grant-requires-clause-acyclic
+write_grant-requires-clause-acyclic g c = let a = c.args.admitted.now in acyclic (ground g.met.S.Scale.laws g.met.S.Scale.chooses a.known a.short c.requires.settled.1)
+
+pub write_grant-requires-clause-small : goal.write_grant-requires-clause-small
+write_grant-requires-clause-small g c = let a = c.args.admitted.now in few_cells a.entities _ (stated (g.R.Source.shows a.source.now)) a.few a.short refl
+
+pub write_grant-requires-clause-inside : goal.write_grant-requires-clause-inside
+write_grant-requires-clause-inside g c =
+    let a = c.args.admitted.now in
+    cell_inside g.met.S.Scale.laws g.met.S.Scale.chooses a.known a.short c.requires.settled.1 c.unwrap-cell.result (sym c.cell_of.ensures ∙ c.unwrap-cell.ensures)
 
 pub returns : goal.returns
 returns g c =
-    let p = c.requires in
-    let w = c.write_grant in
-    record {
-      granted = λ n r. granted g.S.Scale.laws g.S.Scale.chooses p.few p.known p.short p.indexed p.many r c.in-Some.cell c.in-Some.ensures c.args.steps.now w.new.steps w.result w.ensures.granted;
-      derives = λ n v r. derives g.S.Scale.laws g.S.Scale.chooses p.few p.known p.short p.indexed p.many r c.in-Some.cell c.in-Some.ensures c.args.steps.now w.new.steps w.result w.ensures.granted v;
-      few = w.ensures.few;
-    }
+    let a = c.args.admitted.now in
+    explained g.met.S.Scale.laws g.met.S.Scale.chooses a.known a.short c.unwrap-cell.result (sym c.cell_of.ensures ∙ c.unwrap-cell.ensures) c.args.steps.now c.write_grant.new.steps c.write_grant.result c.write_grant.ensures.granted c.write_grant.ensures.few

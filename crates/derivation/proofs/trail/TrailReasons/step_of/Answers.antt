@@ -1,27 +1,11 @@
-use Rattle.std.proofs.Common.{Some, None, ◌∙◌, mod-lt}
-use Rattle.rules.specs.Tables.{because}
-use Rattle.derivation.proofs.Trails.{fits_from, middle_in, body_known, step_shown}
+use Rattle.derivation.proofs.Reading.{body_known, step_shown}
 use Rattle.derivation.proofs.trail.TrailReasons.step_of.Goals as goal
 
-pub trace-requires : goal.trace-requires
-trace-requires g c =
-    let t = c.args.self.now in
-    let xs = g.R.Source.shows t.source.now in
-    let r = c.requires.ready in
-    record {
-      fits = fits_from xs t.index.now t.entities t.heads t.reasons.now r c.args.cell c.requires.inside;
-      few = r.few;
-      body = body_known xs t.index.now t.entities t.heads t.reasons.now r c.args.cell c.requires.inside _ c.in-Some.c c.in-Some.ensures;
-      member = mod-lt c.args.cell r.some;
-      middle = middle_in xs t.index.now t.entities t.heads t.reasons.now r c.args.cell c.requires.inside (because 0 0);
-    }
+pub premises-first-requires-clause-body : goal.premises-first-requires-clause-body
+premises-first-requires-clause-body g c = body_known _ _ _ c.credential-credential.result c.args.self.now.admitted.now.known c.credential-credential.ensures
 
-pub returns-in-Some : goal.returns-in-Some
-returns-in-Some g c =
-    let t = c.args.self.now in
-    c.trace.ensures ∙ step_shown (g.R.Source.shows t.source.now) t.index.now t.entities t.heads t.reasons.now c.requires.ready c.args.cell c.requires.inside (because 0 0) (Some c.in-Some.c) c.in-Some.ensures
-
-pub returns-in-None : goal.returns-in-None
-returns-in-None g c =
-    let t = c.args.self.now in
-    step_shown (g.R.Source.shows t.source.now) t.index.now t.entities t.heads t.reasons.now c.requires.ready c.args.cell c.requires.inside (because 0 0) None c.in-None.ensures
+pub returns : goal.returns
+returns g c =
+    let a = c.args.self.now.admitted.now in
+    step_shown (g.R.Source.shows a.source.now) a.entities c.args.self.now.reasons.now c.args.cell _ c.args.self.now.has_reasons c.requires
+    c.credential-credential.result c.credential-credential.ensures _ _ c.premises-first.ensures.first c.premises-first.ensures.second
