@@ -1,7 +1,6 @@
--- The first that passes, by the library's words, and the steps of a search for it.
-use Rattle.std.proofs.Common.{◌≡◌, ℕ, suc, ◌+◌, ◌<◌, ◌≤◌, Bool, true, false, cond, eqb, ltb, List, [], ◌∷◌, ◌++◌, length, get_or, drop, Some, None, position, sym, refl, ap, arith}
+-- The first that passes, by the library's words.
+use Rattle.std.proofs.Common.{◌≡◌, suc, ◌+◌, ◌≤◌, Bool, cond, eqb, ltb, List, [], ◌∷◌, ◌++◌, length, Some, None, position, sym, refl, ap, arith}
 use Rattle.std.specs.List.{position_or_len}
-use Rattle.std.proofs.lemmas.List.{at_drop_more, at_drop_all}
 use Rattle.std.proofs.lemmas.List.Folds.{position_or_len_push}
 use Rattle.std.proofs.lemmas.List.Recursion.{is_position_or_len}
 use Rattle.std.proofs.lemmas.Bool.{cond_both}
@@ -20,16 +19,3 @@ module _ {X : Type 0} (p : X → Bool) where
   pub first_most : (xs : List X) → first p xs ≤ length xs
   first_most [] = omega arith
   first_most (x ∷ xs) = cond_both (p x) 0 (suc (first p xs)) (λ n. n ≤ suc (length xs)) (λ e. omega arith) (λ e. omega (arith, first_most xs))
-
-module _ {X : Type 0} (p : X → Bool) (xs : List X) (i : ℕ) where
-  at_first : (d : X) → i < length xs → first p (drop i xs) ≡ cond (p (get_or xs i d)) 0 (suc (first p (drop (i + 1) xs)))
-  at_first d h = at_drop_more (first p) xs i d h
-
-  pub first_more : (d : X) → i < length xs → p (get_or xs i d) ≡ false → first p xs ≡ i + first p (drop i xs) → first p xs ≡ (i + 1) + first p (drop (i + 1) xs)
-  first_more d h e inv = let s = rw e at (at_first d h) in omega (arith, s)
-
-  pub first_found : (d : X) → i < length xs → p (get_or xs i d) ≡ true → first p xs ≡ i + first p (drop i xs) → i ≡ first p xs
-  first_found d h e inv = let s = rw e at (at_first d h) in omega (arith, s)
-
-  pub first_none : length xs ≤ i → first p xs ≡ i + first p (drop i xs) → i ≡ first p xs
-  first_none h inv = let s = at_drop_all (first p) xs i h in omega (arith, s)

@@ -6,14 +6,14 @@ use credential::{Entity, RoleName};
 // What enrol, add and withdraw refuse. `number` in specs/Kept.antt gives each its number.
 #[derive(Clone, Copy, PartialEq, Eq, Debug)]
 pub enum Refusal {
-    MalformedName,
-    AlreadyEnrolled,
-    RegisterFull,
-    NotEnrolled,
-    WeightOutOfRange,
-    AlreadyInForce,
-    BookFull,
-    NotInForce,
+    MalformedName = 1,
+    AlreadyEnrolled = 2,
+    RegisterFull = 3,
+    NotEnrolled = 4,
+    WeightOutOfRange = 5,
+    AlreadyInForce = 6,
+    BookFull = 7,
+    NotInForce = 8,
 }
 
 impl Refusal {
@@ -21,16 +21,7 @@ impl Refusal {
     pub fn number(self) -> u8
         ensures { result ≡ number self }
     {
-        match self {
-            Refusal::MalformedName => 1,
-            Refusal::AlreadyEnrolled => 2,
-            Refusal::RegisterFull => 3,
-            Refusal::NotEnrolled => 4,
-            Refusal::WeightOutOfRange => 5,
-            Refusal::AlreadyInForce => 6,
-            Refusal::BookFull => 7,
-            Refusal::NotInForce => 8,
-        }
+        self as u8
     }
 }
 

@@ -28,14 +28,13 @@ impl Register {
         ensures changes { (b : AnyBook) → plain self.new b ≡ next (plain self.old b) (enrol word.now) }
         ensures uses { (b : AnyBook) → StandsAfter (plain self.old b) (enrol word.now) (plain self.new b) }
     {
-        match kind_of(word).ok_or(Refusal::MalformedName)? {
-            Kind::Entity => self
-                .entities
-                .enrol(word)
-                .map(|n| Enrolled::Entity(Entity(n))),
+        let kind = kind_of(word).ok_or(Refusal::MalformedName)?;
+        let name = Name::of(word);
+        match kind {
+            Kind::Entity => self.entities.put(name).map(|n| Enrolled::Entity(Entity(n))),
             Kind::RoleName => self
                 .role_names
-                .enrol(word)
+                .put(name)
                 .map(|n| Enrolled::RoleName(RoleName(n))),
         }
     }

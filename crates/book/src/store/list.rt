@@ -31,19 +31,18 @@ impl<const MOST: usize> NameList<MOST> {
         self.names.as_slice()
     }
 
-    // Puts the word last, unless it is there or the list is full.
-    pub(super) fn enrol(&mut self, word: &[u8]) -> Result<u8, Refusal>
-        requires { length word.now ≤ 24 }
-        ensures { Puts MOST word.now self.old.names.items result self.new.names.items }
+    // Puts the name last, unless it is there or the list is full.
+    pub(super) fn put(&mut self, name: Name) -> Result<u8, Refusal>
+        ensures { Puts MOST name self.old.names.items result self.new.names.items }
     {
-        if number_of(self.as_slice(), word).is_some() {
+        if number_of(self.as_slice(), name.text()).is_some() {
             return Err(Refusal::AlreadyEnrolled);
         }
         let place = self.len();
         if place >= MOST {
             return Err(Refusal::RegisterFull);
         }
-        self.names.push_reserved(Name::of(word));
+        self.names.push_reserved(name);
         Ok(place as u8)
     }
 }

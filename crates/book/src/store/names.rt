@@ -23,6 +23,8 @@ fn is_name(word: &[u8]) -> bool
     0 < word.len() && word.len() <= NAME_LENGTH && are_name_bytes(word)
 }
 
+// One for each kind, since their callers ask of one kind at a time: `is_entity(word)` reads plainer than
+// a test of the first letter handed to a common function.
 pub fn is_entity(word: &[u8]) -> bool
     ensures { result ≡ entity word.now }
 {
