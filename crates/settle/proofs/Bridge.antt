@@ -2,6 +2,7 @@
 use Rattle.std.proofs.Common.{◌≡◌, ℕ, suc, Bool, true, false, cond, ◌⊎◌, List, [], ◌∷◌, ◌++◌, map, filter, Option, sym, refl, ap, ◌∙◌, subst, ap₂, inl, inr}
 use mathlib.Core.Logic.{ite, if_pos, if_neg}
 use mathlib.Core.List.{Memᴰ}
+use Rattle.std.proofs.lemmas.List.{map-append}
 use Rattle.std.proofs.lemmas.List.Elements.{filter-append}
 use Rattle.scale.specs.Scale.{Meaning, Laws, Chooses, better_of, AtLeast}
 use Rattle.rules.specs.System.{Table, weighs}
@@ -67,12 +68,8 @@ module _ {S : Type 0} (m : Meaning S) (laws : Laws m) (t : Table Membership S) w
 
     -- one more of a list of ways in order
     pub offered_more : (f : ℕ → Way S) (n : ℕ) (e : Entry S) → offered m t (filter p (map f (below (suc n)))) e ≡ taken_if m (p (f n)) (weight_by m t (f n)) (because (f n).place (f n).middle) (offered m t (filter p (map f (below n))) e)
-    offered_more f n e = ap (λ ys. offered m t (filter p ys) e) (map_end (below n)) ∙ kept_append (map f (below n)) (f n ∷ []) e ∙ by (p (f n)) (offered m t (filter p (map f (below n))) e)
+    offered_more f n e = ap (λ ys. offered m t (filter p ys) e) (map-append f (below n) (n ∷ [])) ∙ kept_append (map f (below n)) (f n ∷ []) e ∙ by (p (f n)) (offered m t (filter p (map f (below n))) e)
       where
-        map_end : (xs : List ℕ) → map f (xs ++ (n ∷ [])) ≡ map f xs ++ (f n ∷ [])
-        map_end [] = refl
-        map_end (x ∷ xs) = ap (λ ys. f x ∷ ys) (map_end xs)
-
         by : (v : Bool) (y : Entry S) → offered m t (cond v (f n ∷ []) []) y ≡ taken_if m v (weight_by m t (f n)) (because (f n).place (f n).middle) y
         by true y = refl
         by false y = refl

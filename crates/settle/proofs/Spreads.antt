@@ -1,6 +1,5 @@
 -- What a credential gives its head's row, as what it gives each membership.
-use Rattle.std.proofs.Common.{◌≡◌, ℕ, suc, ◌+◌, ◌*◌, ◌<◌, Bool, true, false, cond, ◌⊎◌, List, [], ◌∷◌, ◌++◌, length, get_or, take, Some, None, filter, Option, sym, refl, ap, ◌∙◌, subst, inl, inr, append_assoc, append-nil, arith}
-use Rattle.std.proofs.lemmas.List.{take_more, length-take}
+use Rattle.std.proofs.Common.{◌≡◌, ℕ, suc, ◌+◌, ◌*◌, Bool, true, false, cond, ◌⊎◌, List, [], ◌∷◌, ◌++◌, length, Some, None, filter, Option, sym, refl, ap, ◌∙◌, subst, inl, inr, append_assoc, append-nil, zero-add, arith}
 use Rattle.scale.specs.Scale.{Meaning, Laws}
 use Rattle.scale.specs.Order.{none_some, some_is}
 use Rattle.rules.specs.System.{Table}
@@ -9,9 +8,15 @@ use Rattle.rules.specs.Ways.{belongs, Way, ways_by, ways_of, ways_from}
 use Rattle.rules.specs.Cells.{number}
 use Rattle.settle.specs.Entries.{Entry, offered, RowOf, Spread}
 use Rattle.settle.proofs.Bridge.{kept_append}
+use Rattle.heads.specs.Enrolled.{CredentialIn, AllIn}
 use Rattle.heads.proofs.Roles.{which, same_number, rows_apart}
 use Rattle.credential.specs.declared.Role.{Role}
 use Rattle.credential.specs.Same.{Credential, same_role}
+
+-- what holds of all credentials holds of one between others
+pub known_between : (E : ℕ) (before after : List Credential) (c : Credential) → AllIn E (before ++ (c ∷ after)) → CredentialIn E c
+known_between E [] after c h = h.0
+known_between E (d ∷ before) after c h = known_between E before after c h.1
 
 module _ {S : Type 0} (m : Meaning S) (laws : Laws m) (E : ℕ) where
   pub ways_end : (n : ℕ) (cs : List Credential) (c : Credential) (q : Membership) → ways_from m E n (cs ++ (c ∷ [])) q ≡ ways_from m E n cs q ++ ways_of m E (n + length cs) c q
@@ -40,14 +45,11 @@ module _ {S : Type 0} (m : Meaning S) (laws : Laws m) (E : ℕ) where
             row.outside (h * E + x) (λ y ly z. rows_apart E h to x y apart l ly z)
             ∙ ap (λ ys. offered m t (filter pass ys) (a (h * E + x))) (sym (mine false s.1))
 
-    module _ (cs : List Credential) (p : ℕ) (s a b : ℕ → Entry S) where
-      pub spread_more : (c : Credential) → p < length cs → get_or cs p c ≡ c → Spread rs E (λ q. offered m t (filter pass (ways_from m E 0 (take p cs) q))) s a → RowOf (number rs c.head) E (λ x. offered m t (filter pass (ways_by m E p c.body x))) a b → Spread rs E (λ q. offered m t (filter pass (ways_from m E 0 (take (p + 1) cs) q))) s b
-      spread_more c within at before row r h x e l =
-          let q = belongs r x in
-          let pushed : take (p + 1) cs ≡ take p cs ++ (c ∷ []) = take_more cs p c within ∙ ap (λ d. take p cs ++ (d ∷ [])) at in
-          let place : length (take p cs) ≡ p = simp length-take (omega arith) in
-          let listed : ways_from m E 0 (take (p + 1) cs) q ≡ ways_from m E 0 (take p cs) q ++ ways_of m E p c q = ap (λ ds. ways_from m E 0 ds q) pushed ∙ ways_end 0 (take p cs) c q ∙ ap (λ n. ways_from m E 0 (take p cs) q ++ ways_of m E n c q) (omega (arith, place)) in
-          spread_one p c a b row r h x e l
-          ∙ ap (offered m t (filter pass (ways_of m E p c q))) (before r h x e l)
-          ∙ sym (kept_append m laws t pass (ways_from m E 0 (take p cs) q) (ways_of m E p c q) (s (h * E + x)))
-          ∙ ap (λ ys. offered m t (filter pass ys) (s (h * E + x))) (sym listed)
+    -- one credential more
+    pub spread_more : (cs : List Credential) (c : Credential) (s a b : ℕ → Entry S) → Spread rs E (λ q. offered m t (filter pass (ways_from m E 0 cs q))) s a → RowOf (number rs c.head) E (λ x. offered m t (filter pass (ways_by m E (length cs) c.body x))) a b → Spread rs E (λ q. offered m t (filter pass (ways_from m E 0 (cs ++ (c ∷ [])) q))) s b
+    spread_more cs c s a b before row r h x e l =
+        let q = belongs r x in
+        spread_one (length cs) c a b row r h x e l
+        ∙ ap (offered m t (filter pass (ways_of m E (length cs) c q))) (before r h x e l)
+        ∙ sym (kept_append m laws t pass (ways_from m E 0 cs q) (ways_of m E (length cs) c q) (s (h * E + x)))
+        ∙ ap (λ ys. offered m t (filter pass ys) (s (h * E + x))) (sym (ways_end 0 cs c q ∙ ap (λ n. ways_from m E 0 cs q ++ ways_of m E n c q) (zero-add (length cs))))

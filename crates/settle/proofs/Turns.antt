@@ -1,42 +1,27 @@
 -- The turns of the loop of rounds.
-use Rattle.std.proofs.Common.{◌≡◌, ℕ, suc, ◌+◌, ◌*◌, ◌<◌, ◌≤◌, Bool, true, false, ◌⊎◌, List, [], ◌∷◌, map, length, get_or, replicate, Some, None, filter, Option, sym, refl, ap, ◌∙◌, subst, ap₂, inl, inr, add-one, arith}
+use Rattle.std.proofs.Common.{◌≡◌, ℕ, zero, suc, ◌+◌, ◌*◌, ◌<◌, ◌≤◌, Bool, true, false, ltb, List, [], ◌∷◌, map, length, get_or, replicate, Some, None, filter, Option, sym, refl, ap, ◌∙◌, subst, ap₂, add-one, arith}
 use mathlib.Core.Path.{fun_ext}
 use Rattle.scale.specs.Scale.{Meaning, Laws, Chooses, AtLeast}
-use Rattle.scale.specs.Order.{none_some, some_is}
 use Rattle.credential.specs.declared.Role.{Role}
-use Rattle.credential.specs.Same.{Credential, same_role}
+use Rattle.credential.specs.Same.{Credential}
 use Rattle.rules.specs.declared.memberships.Reason.{Reason}
 use Rattle.rules.specs.declared.memberships.Membership.{Membership}
 use Rattle.rules.specs.Ways.{belongs, Way, ways}
 use Rattle.rules.specs.Tables.{weight_by, table, Still}
 use Rattle.rules.specs.Cells.{heads, number, cells_of, cells, weights_after, reasons_after}
-use Rattle.heads.specs.Index.{Indexed}
 use Rattle.heads.specs.Enrolled.{AllIn}
-use Rattle.settle.specs.Entries.{entry_at, offered, shown, Held, Rooms, Spread}
+use Rattle.settle.specs.Entries.{entry_at, offered, shown, Spread}
 use Rattle.settle.specs.Settled.{Settles}
-use Rattle.settle.specs.Moves.{flag_of, worth, RowChanged, AnySet, Noted}
-use Rattle.heads.proofs.Roles.{which, numbered_first, numbered_later, one_less}
+use Rattle.std.specs.Borrow.{Bor}
+use Rattle.std.specs.Bool.{then_some}
+use Rattle.std.proofs.lemmas.Bool.{le-ltb, lt-ltb}
+use Rattle.settle.specs.Moves.{flags, flag_of, worth, RowChanged, AnySet, Noted}
 use Rattle.heads.proofs.Cells.{length_cells}
 use Rattle.settle.proofs.Beyond.{shown_table, weight_cell}
 use Rattle.settle.proofs.Bridge.{kept_offered}
-use Rattle.settle.proofs.Rows.{rows_within}
+use Rattle.settle.proofs.Rows.{rows_within, number_below}
 use Rattle.settle.proofs.Skipping.{Unmoved, as_before, skipped_below}
 use Rattle.settle.proofs.Ending.{Change, next_weights, next_reasons, covered_same, uncovered_changes, changes_cells, settles}
-
-number_below : (rs : List Role) (r : Role) (h : ℕ) → number rs r ≡ Some h → h < length rs
-number_below [] r h e = absurd (none_some e)
-number_below (b ∷ rs) r h e = by (which b r) (number_below rs r)
-  where
-    by : ((b ≡ r) × (same_role b r ≡ true)) ⊎ ((b ≡ r → ⊥) × (same_role b r ≡ false)) → ((k : ℕ) → number rs r ≡ Some k → k < length rs) → h < length (b ∷ rs)
-    by (inl p) again = let z : 0 ≡ h = some_is (sym (numbered_first b rs r p.1) ∙ e) in omega arith
-    by (inr p) again = let k = one_less (number rs r) h (sym (numbered_later b rs r p.1) ∙ e) in omega (arith, again k.0 k.1, k.2)
-
-pub rooms : (index : List ℕ) (rs : List Role) (E len : ℕ) → Indexed index rs → len ≡ length rs * E → Rooms index E len
-rooms index rs E len ix long = record { long = ix.long; held = λ r he hn. subst (Held len E) (sym (ix.right r he hn)) (by r (number rs r) refl) }
-  where
-    by : (r : Role) (n : Option ℕ) → number rs r ≡ n → Held len E n
-    by r None e = tt
-    by r (Some h) e = rows_within E (length rs) len (omega (arith, long)) h (number_below rs r h e)
 
 -- every cell at first
 pub first_cells : {X : Type 0} (ms : List Membership) (v : X) → replicate (length ms) v ≡ map (λ _. v) ms
@@ -46,33 +31,41 @@ first_cells (q ∷ ms) v = ap (λ vs. v ∷ vs) (first_cells ms v)
 pub first_list : {X : Type 0} (E : ℕ) (rs : List Role) (v : X) (xs : List X) (n : ℕ) → n ≡ length rs * E → xs ≡ replicate n v → xs ≡ map (λ _. v) (cells_of E rs)
 first_list E rs v xs n e h = h ∙ ap (λ j. replicate j v) (e ∙ sym (length_cells E rs)) ∙ first_cells (cells_of E rs) v
 
--- with nobody enrolled there are no heads, so that cells are counted by rows
-pub rows_are_heads : (E n : ℕ) (cs : List Credential) → AllIn E cs → n ≤ length (heads cs) → (0 < E → n ≡ length (heads cs)) → n ≡ length (heads cs)
-rows_are_heads E n [] known few all = omega arith
-rows_are_heads E n (c ∷ cs) known few all = all (omega (arith, known.0.head.entity))
+-- the flags of the last round, where there was one
+pub unmoved_then : {S : Type 0} (m : Meaning S) (E : ℕ) (cs : List Credential) (k : ℕ) (flags : List Bool) (changed : Option (List Bool)) → Unmoved m E cs k (Some flags) → (k ≡ 0 → changed ≡ None) → (0 < k → changed ≡ Some flags) → Unmoved m E cs k changed
+unmoved_then m E cs zero flags changed unmoved first later = λ r h x e f l. refl
+unmoved_then m E cs (suc k) flags changed unmoved first later = subst (Unmoved m E cs (suc k)) (sym (later (omega arith))) unmoved
+
+-- which flags are read: none in the first round
+module _ (k : ℕ) (last : Bor (List Bool)) (o : Option (Bor (List Bool))) (e : o ≡ then_some (ltb 0 k) last) where
+  pub none_first : k ≡ 0 → flags o ≡ None
+  none_first z = ap flags (e ∙ ap (λ (b : Bool). then_some b last) (le-ltb 0 k (omega arith)))
+
+  pub last_later : 0 < k → flags o ≡ Some last.now
+  last_later l = ap flags (e ∙ ap (λ (b : Bool). then_some b last) (lt-ltb 0 k l))
 
 -- one turn: former, before and why are the lists after k rounds, changed says which rows the last of those changed,
 -- and latest and reasons are what a round leaves of before and why
-pub record Turn {S : Type 0} (m : Meaning S) (E : ℕ) (cs : List Credential) (k : ℕ) (former before : List (Option S)) (why : List Reason) (fresh : Bool) (changed : List Bool) (latest : List (Option S)) (reasons : List Reason) : Type 0 where
+pub record Turn {S : Type 0} (m : Meaning S) (E : ℕ) (cs : List Credential) (k : ℕ) (former before : List (Option S)) (why : List Reason) (changed : Option (List Bool)) (latest : List (Option S)) (reasons : List Reason) : Type 0 where
   pub former_is : former ≡ weights_after m E cs k
   pub before_is : before ≡ weights_after m E cs k
   pub why_is : why ≡ reasons_after m E cs k
   pub unmoved : Unmoved m E cs k changed
-  pub first : k ≡ 0 → fresh ≡ true
+  pub first : k ≡ 0 → changed ≡ None
   pub latest_long : length latest ≡ length (heads cs) * E
   pub reasons_long : length reasons ≡ length (heads cs) * E
-  pub spread : Spread (heads cs) E (λ q. offered m (shown (heads cs) E former) (filter (worth fresh (heads cs) changed) (ways m E cs q))) (entry_at before why) (entry_at latest reasons)
+  pub spread : Spread (heads cs) E (λ q. offered m (shown (heads cs) E former) (filter (worth (heads cs) changed) (ways m E cs q))) (entry_at before why) (entry_at latest reasons)
 
-module _ {S : Type 0} {m : Meaning S} (laws : Laws m) {E : ℕ} {cs : List Credential} (known : AllIn E cs) {k : ℕ} {former before : List (Option S)} {why : List Reason} {fresh : Bool} {changed : List Bool} {latest : List (Option S)} {reasons : List Reason} (turn : Turn m E cs k former before why fresh changed latest reasons) where
+module _ {S : Type 0} {m : Meaning S} (laws : Laws m) {E : ℕ} {cs : List Credential} (known : AllIn E cs) {k : ℕ} {former before : List (Option S)} {why : List Reason} {changed : Option (List Bool)} {latest : List (Option S)} {reasons : List Reason} (turn : Turn m E cs k former before why changed latest reasons) where
   -- the ways left out would change nothing
   spread_table : Spread (heads cs) E (λ q. offered m (table m E cs k) (ways m E cs q)) (entry_at (weights_after m E cs k) (reasons_after m E cs k)) (entry_at latest reasons)
   spread_table r h x e l =
       let q = belongs r x in
-      let p : Way S → Bool = worth fresh (heads cs) changed in
+      let p : Way S → Bool = worth (heads cs) changed in
       let was = entry_at (weights_after m E cs k) (reasons_after m E cs k) (h * E + x) in
       turn.spread r h x e l
       ∙ ap₂ (λ t y. offered m t (filter p (ways m E cs q)) y) (ap (shown (heads cs) E) turn.former_is ∙ shown_table m laws E cs known k) (ap₂ (λ (ws : List (Option S)) (ys : List Reason). entry_at ws ys (h * E + x)) turn.before_is turn.why_is)
-      ∙ kept_offered m laws (table m E cs k) p (ways m E cs q) was (λ y i f. subst (λ (w : Option S). AtLeast m w (weight_by m (table m E cs k) y)) (sym (weight_cell m laws E cs known k r h x e l)) (skipped_below m laws E cs known k changed turn.unmoved fresh turn.first q y i f))
+      ∙ kept_offered m laws (table m E cs k) p (ways m E cs q) was (λ y i f. subst (λ (w : Option S). AtLeast m w (weight_by m (table m E cs k) y)) (sym (weight_cell m laws E cs known k r h x e l)) (skipped_below m laws E cs known k changed turn.unmoved turn.first q y i f))
 
   weights_next : latest ≡ weights_after m E cs (suc k)
   weights_next = next_weights m laws E cs known k latest reasons (turn.latest_long ∙ sym (length_cells E (heads cs))) (turn.reasons_long ∙ sym (length_cells E (heads cs))) spread_table
@@ -88,13 +81,13 @@ module _ {S : Type 0} {m : Meaning S} (laws : Laws m) {E : ℕ} {cs : List Crede
     of_tables : (h : ℕ) → h < n → RowChanged m (weights_after m E cs k) (weights_after m E cs (suc k)) (h * E) E (get_or flags h false)
     of_tables h l = subst (λ (ws : List (Option S)). RowChanged m ws (weights_after m E cs (suc k)) (h * E) E (get_or flags h false)) turn.former_is (subst (λ (ws : List (Option S)). RowChanged m former ws (h * E) E (get_or flags h false)) weights_next (noted.rows h l))
 
-    unmoved_suc : Unmoved m E cs (suc k) flags
+    unmoved_suc : Unmoved m E cs (suc k) (Some flags)
     unmoved_suc r h x e f l =
         let lh : h < n = omega (arith, number_below (heads cs) r h e) in
         let row = subst (RowChanged m (weights_after m E cs k) (weights_after m E cs (suc k)) (h * E) E) f (of_tables h lh) in
         covered_same m laws E cs known k r h x e l (row x l)
 
-    pub unmoved_next : Unmoved m E cs (k + 1) flags
+    pub unmoved_next : Unmoved m E cs (k + 1) (Some flags)
     unmoved_next = rw add-one unmoved_suc
 
     pub gained : any ≡ true → Change m E cs k
@@ -109,9 +102,9 @@ module _ {S : Type 0} {m : Meaning S} (laws : Laws m) {E : ℕ} {cs : List Crede
     not_last e = omega (arith, changes_cells m laws E cs known k (gained e), length_cells E (heads cs))
 
     still : any ≡ false → Still m E cs k
-    still e q = as_before m laws E cs known (suc k) flags unmoved_suc q (by (number (heads cs) q.role) refl)
+    still e q = as_before m laws E cs known (suc k) (Some flags) unmoved_suc q (by (number (heads cs) q.role) refl)
       where
-        by : (o : Option ℕ) → number (heads cs) q.role ≡ o → flag_of flags o ≡ false
+        by : (o : Option ℕ) → number (heads cs) q.role ≡ o → flag_of (Some flags) o ≡ false
         by None c = refl
         by (Some h) c = subst (AnySet flags n) e noted.some h (omega (arith, number_below (heads cs) q.role h c))
 

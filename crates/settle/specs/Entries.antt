@@ -1,5 +1,6 @@
 -- The entries of the lists that a round works on: for the inner functions of a round.
-use Rattle.std.specs.Prelude.{◌≡◌, ℕ, zero, suc, ◌+◌, ◌*◌, ◌<◌, ◌≤◌, Bool, true, false, cond, List, [], ◌∷◌, length, Some, None, Option, ◌≢◌, nat_lt, slice_index_or}
+use Rattle.std.specs.Prelude.{◌≡◌, ℕ, zero, suc, ◌+◌, ◌*◌, ◌<◌, ◌≤◌, Bool, true, false, cond, List, [], ◌∷◌, length, Some, None, Option, ◌≢◌, IfSome, nat_lt, slice_index_or}
+use Rattle.std.specs.Borrow.{Bor}
 use Rattle.std.proofs.Math.Logic.{ite}
 use Rattle.credential.specs.declared.Role.{Role}
 use Rattle.scale.specs.Scale.{Meaning, better_of}
@@ -10,7 +11,6 @@ use Rattle.rules.specs.System.{Table}
 use Rattle.rules.specs.Ways.{belongs, Way}
 use Rattle.rules.specs.Tables.{because, no_reason, weight_by}
 use Rattle.rules.specs.Cells.{number}
-use Rattle.heads.specs.Index.{head_at}
 
 pub record Entry (S : Type 0) : Type 0 where
   pub weight : Option S
@@ -47,15 +47,20 @@ abbrev pub weight_at : {S : Type 0} → List (Option S) → ℕ → Option ℕ �
 weight_at ws E None x = None
 weight_at ws E (Some h) x = slice_index_or ws (h * E + x) None
 
+-- what a row has for a member, where there is a row
+abbrev pub in_row : {S : Type 0} → Option (Bor (List (Option S))) → ℕ → Option S
+in_row None x = None
+in_row (Some row) x = slice_index_or row.now x None
+
+-- a row, where there is one, has n entries, and w says each
+pub record IsRow {S : Type 0} (n : ℕ) (w : ℕ → Option S) (row : Option (Bor (List (Option S)))) : Type 0 where
+  pub long : IfSome row (λ r. length r.now ≡ n)
+  pub same : (x : ℕ) → x < n → in_row row x ≡ w x
+
 -- a list of so many has the row of a head
 abbrev pub Held : ℕ → ℕ → Option ℕ → Type 0
 Held len E None = Unit {0}
 Held len E (Some h) = h * E + E ≤ len
-
--- the index has a slot for each role, and lists of so many have the row of each that is a head
-pub record Rooms (index : List ℕ) (E len : ℕ) : Type 0 where
-  pub long : length index ≡ 2048
-  pub held : (r : Role) → r.entity.0 < 64 → r.name.0 < 32 → Held len E (head_at index r)
 
 -- the table that a list shows
 abbrev pub shown : {S : Type 0} → List Role → ℕ → List (Option S) → Table Membership S
@@ -65,6 +70,11 @@ shown rs E ws q = cond (nat_lt q.member.0 E) (weight_at ws E (number rs q.role) 
 pub record Put {X : Type 0} (i : ℕ) (f : X → X) (start end : ℕ → X) : Type 0 where
   pub here : end i ≡ f (start i)
   pub elsewhere : (j : ℕ) → (j ≢ i) → end j ≡ start j
+
+-- the first n entries are changed, each by its own f
+pub record Front {X : Type 0} (n : ℕ) (f : ℕ → X → X) (start end : ℕ → X) : Type 0 where
+  pub within : (x : ℕ) → x < n → end x ≡ f x (start x)
+  pub outside : (j : ℕ) → n ≤ j → end j ≡ start j
 
 -- the n entries from base on are changed, each by its own f
 pub record Row {X : Type 0} (base n : ℕ) (f : ℕ → X → X) (start end : ℕ → X) : Type 0 where

@@ -1,28 +1,35 @@
 -- What a round changed, by a flag for each head's row, and so what the next one works through.
-use Rattle.std.specs.Prelude.{◌≡◌, ℕ, ◌+◌, ◌*◌, ◌<◌, Bool, true, false, ◌||◌, List, [], ◌∷◌, Some, None, Option, slice_index_or}
+use Rattle.std.specs.Prelude.{◌≡◌, ℕ, ◌+◌, ◌*◌, ◌<◌, Bool, true, false, ◌||◌, List, [], ◌∷◌, Some, None, is_none, Option, slice_index_or}
+use Rattle.std.specs.Borrow.{Bor}
+use Rattle.std.specs.Option.{option_map}
 use Rattle.credential.specs.declared.Role.{Role}
 use Rattle.scale.specs.Scale.{Meaning, AtLeast}
 use Rattle.rules.specs.declared.memberships.Membership.{Membership}
 use Rattle.rules.specs.Ways.{Way}
 use Rattle.rules.specs.Cells.{number}
 
--- the flag of a head's number; what is no head has no row, which never changes
-abbrev pub flag_of : List Bool → Option ℕ → Bool
-flag_of changed None = false
-flag_of changed (Some h) = slice_index_or changed h false
+-- the flags, where there was a round to set them
+abbrev pub flags : Option (Bor (List Bool)) → Option (List Bool)
+flags changed = option_map (λ r. r.now) changed
+
+-- the flag of a head's number; what is no head has no row, which never changes, and before the first round none did
+abbrev pub flag_of : Option (List Bool) → Option ℕ → Bool
+flag_of None h = false
+flag_of (Some changed) None = false
+flag_of (Some changed) (Some h) = slice_index_or changed h false
 
 -- the row that a membership stands in changed
-abbrev pub moved : List Role → List Bool → Membership → Bool
+abbrev pub moved : List Role → Option (List Bool) → Membership → Bool
 moved rs changed q = flag_of changed (number rs q.role)
 
 -- a way with no premises is worth offering in the first round, and any other where a premise's row changed
-abbrev pub worth_by : Bool → List Role → List Bool → List Membership → Bool
-worth_by fresh rs changed [] = fresh
-worth_by fresh rs changed (q ∷ []) = moved rs changed q
-worth_by fresh rs changed (q ∷ (p ∷ ps)) = moved rs changed q || worth_by fresh rs changed (p ∷ ps)
+abbrev pub worth_by : List Role → Option (List Bool) → List Membership → Bool
+worth_by rs changed [] = is_none changed
+worth_by rs changed (q ∷ []) = moved rs changed q
+worth_by rs changed (q ∷ (p ∷ ps)) = moved rs changed q || worth_by rs changed (p ∷ ps)
 
-abbrev pub worth : {S : Type 0} → Bool → List Role → List Bool → Way S → Bool
-worth fresh rs changed y = worth_by fresh rs changed y.premises
+abbrev pub worth : {S : Type 0} → List Role → Option (List Bool) → Way S → Bool
+worth rs changed y = worth_by rs changed y.premises
 
 -- some entry of the n from base on weighs more in vs than in ws, or none does
 abbrev pub RowChanged : {S : Type 0} → Meaning S → List (Option S) → List (Option S) → ℕ → ℕ → Bool → Type 0

@@ -3,6 +3,7 @@
 
 mod changes;
 pub mod offers;
+mod round;
 mod rounds;
 pub mod settling;
 

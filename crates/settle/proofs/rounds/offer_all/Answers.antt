@@ -1,57 +1,29 @@
-use Rattle.std.proofs.Common.{◌<◌, List, length, filter, subst, arith, take_all}
-use Rattle.std.proofs.ByRecursion.{All-get_or}
-use Rattle.credential.specs.Same.{Credential}
+use Rattle.std.proofs.Common.{◌≡◌, ◌++◌, [], ◌∷◌, sym, ap, ◌∙◌, subst, append_assoc, length-append, arith}
 use Rattle.rules.specs.Cells.{heads}
-use Rattle.heads.specs.Enrolled.{CredentialIn}
-use Rattle.settle.specs.Entries.{entry_at, offered, shown, Spread}
-use Rattle.settle.specs.Moves.{worth}
 use Rattle.source.specs.Shows.{stated}
-use Rattle.rules.specs.Ways.{ways_from}
-use Rattle.settle.proofs.Spreads.{spread_more}
-use Rattle.heads.proofs.Stated.{length_stated, shown_within, shown_at, shown_past}
+use Rattle.heads.specs.Enrolled.{AllIn}
+use Rattle.settle.specs.Entries.{entry_at, shown}
+use Rattle.settle.specs.Moves.{flags, worth}
+use Rattle.settle.proofs.Spreads.{known_between, spread_more}
 use Rattle.settle.proofs.rounds.offer_all.Given as given
 use Rattle.settle.proofs.rounds.offer_all.Goals as goal
 use Rattle.settle.proofs.rounds.offer_all.Goals.{In-Some}
 
-within : (g : given.Over) (c : In-Some g) → c.loop-c.place < length (g.R.Source.shows c.args.source.now)
-within g c = shown_within (g.R.Source.shows c.args.source.now) c.loop-c.place c.in-Some.c c.in-Some.ensures
+-- the credentials, with this one between those before and those after it
+parted : (g : given.Over) (c : In-Some g) → stated (g.R.Source.shows c.args.round.now.admitted.now.source.now) ≡ c.loop-place.yielded ++ (c.in-Some.c ∷ c.next.new.self)
+parted g c = c.loop-place.invariant.all ∙ ap (λ cs. c.loop-place.yielded ++ cs) c.in-Some.ensures.steps
 
-pub overflow_cast-place : goal.overflow_cast-place
-overflow_cast-place g c = omega (arith, within g (goal.at.overflow_cast-place g c).In-Some, g.R.Source.short c.args.source.now)
+pub offer_credential-requires-clause-known : goal.offer_credential-requires-clause-known
+offer_credential-requires-clause-known g c =
+    let admitted = c.args.round.now.admitted.now in
+    known_between admitted.entities c.loop-place.yielded c.next.new.self c.in-Some.c (subst (AllIn admitted.entities) (parted g (goal.at.offer_credential-requires-clause-known g c).In-Some) admitted.known)
 
-pub offer_credential-requires : goal.offer_credential-requires
-offer_credential-requires g c =
-    let xs = g.R.Source.shows c.args.source.now in
-    let h = within g (goal.at.offer_credential-requires g c).In-Some in
-    record {
-      rooms = c.requires.rooms;
-      few = c.requires.few;
-      known = subst (CredentialIn c.args.count) (shown_at xs c.loop-c.place c.in-Some.c c.in-Some.ensures) (All-get_or (CredentialIn c.args.count) (stated xs) c.loop-c.place c.in-Some.c (omega (arith, h, length_stated xs)) c.requires.known);
-      latest_level = omega arith;
-      reasons_level = omega arith;
+pub loop-place-preserved : goal.loop-place-preserved
+loop-place-preserved g c =
+    let round = c.args.round.now in
+    let rs = heads (stated (g.R.Source.shows round.admitted.now.source.now)) in
+    let i = c.loop-place.invariant in record {
+      all = parted g (goal.at.loop-place-preserved g c).In-Some ∙ sym (append_assoc c.loop-place.yielded (c.in-Some.c ∷ []) c.next.new.self);
+      place = simp length-append (omega arith);
+      offered_so_far = spread_more g.S.Scale.meaning g.met.S.Scale.laws round.admitted.now.entities rs (shown rs round.admitted.now.entities round.former.now) (worth rs (flags round.changed)) c.loop-place.yielded c.in-Some.c (entry_at c.args.latest.now c.args.reasons.now) (entry_at c.loop-place.latest c.loop-place.reasons) (entry_at c.offer_credential.new.latest c.offer_credential.new.reasons) i.offered_so_far (rw i.place at c.offer_credential.ensures);
     }
-
-pub overflow_add-place : goal.overflow_add-place
-overflow_add-place g c = omega (arith, within g (goal.at.overflow_add-place g c).In-Some, g.R.Source.short c.args.source.now)
-
-pub loop-c-smaller : goal.loop-c-smaller
-loop-c-smaller g c = omega (arith, within g (goal.at.loop-c-smaller g c).In-Some)
-
-pub loop-c-preserved : goal.loop-c-preserved
-loop-c-preserved g c =
-    let xs = g.R.Source.shows c.args.source.now in
-    let cs = stated xs in
-    let h = within g (goal.at.loop-c-preserved g c).In-Some in
-    spread_more g.S.Scale.meaning g.S.Scale.laws c.args.count (heads cs) (shown (heads cs) c.args.count c.args.former.now) (worth c.args.fresh (heads cs) c.args.changed.now) cs c.loop-c.place
-    (entry_at c.args.latest.now c.args.reasons.now) (entry_at c.loop-c.latest c.loop-c.reasons) (entry_at c.offer_credential.new.latest c.offer_credential.new.reasons)
-    c.in-Some.c (omega (arith, h, length_stated xs)) (shown_at xs c.loop-c.place c.in-Some.c c.in-Some.ensures)
-    c.loop-c.invariant (c.offer_credential.ensures (heads cs) c.requires.indexed)
-
-pub returns : goal.returns
-returns g c =
-    let m = g.S.Scale.meaning in
-    let xs = g.R.Source.shows c.args.source.now in
-    let cs = stated xs in
-    let past = shown_past xs c.loop-c.place c.in_default.ensures in
-    subst (λ (ds : List Credential). Spread (heads cs) c.args.count (λ q. offered m (shown (heads cs) c.args.count c.args.former.now) (filter (worth c.args.fresh (heads cs) c.args.changed.now) (ways_from m c.args.count 0 ds q))) (entry_at c.args.latest.now c.args.reasons.now) (entry_at c.loop-c.latest c.loop-c.reasons))
-    (take_all c.loop-c.place cs (omega (arith, past, length_stated xs))) c.loop-c.invariant

@@ -1,16 +1,18 @@
-use Rattle.std.proofs.Common.{◌-◌, length, take, filter}
+use Rattle.std.proofs.Common.{◌≡◌, ◌++◌, length, filter}
 use Rattle.rules.specs.Cells.{heads}
-use Rattle.settle.specs.Entries.{entry_at, offered, shown, Spread}
-use Rattle.settle.specs.Moves.{worth}
-use Rattle.source.specs.Shows.{stated}
 use Rattle.rules.specs.Ways.{ways_from}
+use Rattle.source.specs.Shows.{stated}
+use Rattle.settle.specs.Entries.{entry_at, offered, shown, Spread}
+use Rattle.settle.specs.Moves.{flags, worth}
 use Rattle.settle.proofs.rounds.offer_all.Given as goal
 
-abbrev pub invariant-loop-c : goal.invariant-loop-c
-invariant-loop-c g l =
+abbrev pub invariant-loop-place : goal.invariant-loop-place
+invariant-loop-place g l =
     let m = g.S.Scale.meaning in
-    let cs = stated (g.R.Source.shows l.source) in
-    Spread (heads cs) l.count (λ q. offered m (shown (heads cs) l.count l.former) (filter (worth l.fresh (heads cs) l.changed) (ways_from m l.count 0 (take l.place cs) q))) (entry_at l.initial.latest l.initial.reasons) (entry_at l.latest l.reasons)
-
-abbrev pub decreases-loop-c : goal.decreases-loop-c
-decreases-loop-c g l = length (g.R.Source.shows l.source) - l.place
+    let E = l.round.admitted.now.entities in
+    let cs = stated (g.R.Source.shows l.round.admitted.now.source.now) in
+    record {
+      all : cs ≡ l.yielded ++ l.c-iterator;
+      place : l.place ≡ length l.yielded;
+      offered_so_far : Spread (heads cs) E (λ q. offered m (shown (heads cs) E l.round.former.now) (filter (worth (heads cs) (flags l.round.changed)) (ways_from m E 0 l.yielded q))) (entry_at l.initial.latest l.initial.reasons) (entry_at l.latest l.reasons);
+    }
