@@ -3,7 +3,7 @@ use Rattle.std.proofs.Common.{◌≡◌, ℕ, zero, suc, ◌+◌, ◌<◌, ◌�
 use mathlib.Core.List.{Memᴰ}
 use Rattle.std.specs.List.{slice_get}
 use Rattle.std.proofs.lemmas.List.{map_more, take_all, take_at, length-map}
-use Rattle.std.proofs.lemmas.Option.{slice_get-get_or}
+use Rattle.std.proofs.lemmas.Option.{slice_get-get_or, slice_get_within}
 use Rattle.std.proofs.lemmas.Bool.{and_from, eq-eqb, cond-true}
 use Rattle.credential.specs.declared.Record.{Record}
 use Rattle.credential.specs.declared.Body.{Body}
@@ -21,7 +21,7 @@ use Rattle.rules.specs.Grants.{place_in, cite, rests_on, Reached, here, onward, 
 use Rattle.rules.proofs.Listed.{Named}
 use Rattle.rules.proofs.Earning.{reasons_weigh}
 use Rattle.rules.proofs.Steps.{membership_self}
-use Rattle.derivation.proofs.Places.{nth_taken, nth_in, place_there}
+use Rattle.derivation.proofs.Places.{nth_taken, place_there}
 use Rattle.derivation.proofs.Rests.{Resting, resting, rests_settled}
 
 module _ {S : Type 0} (M : Meaning S) (laws : Laws M) (chooses : Chooses M) (E : ℕ) (cs : List Credential) (n : ℕ) (still : Still M E cs n) (goal : Membership) (settled : Settled M E cs n goal) where
@@ -142,7 +142,7 @@ module _ {S : Type 0} (M : Meaning S) (laws : Laws M) (chooses : Chooses M) (E :
     derives w is =
         let k = listing.last.0 in
         let at = listing.last.2 in
-        let h : k < length order = nth_in order k goal at in
+        let h : k < length order = slice_get_within order k goal at in
         let goal_is : get_or order k goal ≡ goal = some_is (sym (slice_get-get_or order k goal h) ∙ at) in
         record {
           before = map step (take k order);

@@ -9,42 +9,35 @@ use Rattle.rules.proofs.Rounds.{later}
 use Rattle.rules.proofs.Reasons.{Earned, premise_above, premise_earlier}
 
 -- how many of a list pass a test
-abbrev one_if : {A : Type 0} → Dec A → ℕ → ℕ
-one_if (yes _) k = suc k
-one_if (no _) k = k
+abbrev one_if : {A : Type 0} → Dec A → ℕ
+one_if (yes _) = 1
+one_if (no _) = 0
 
 unfoldable counted : {C : Type 0} {P : C → Type 0} → ((c : C) → Dec (P c)) → List C → ℕ
 counted test [] = 0
-counted test (c ∷ cs) = one_if (test c) (counted test cs)
+counted test (c ∷ cs) = one_if (test c) + counted test cs
 
-one_if_le : {A B : Type 0} (a : Dec A) (b : Dec B) (m n : ℕ) → (A → B) → m ≤ n → one_if a m ≤ one_if b n
-one_if_le (yes x) (yes y) m n f h = omega arith
-one_if_le (yes x) (no y) m n f h = absurd (y (f x))
-one_if_le (no x) (yes y) m n f h = omega arith
-one_if_le (no x) (no y) m n f h = h
+one_if_le : {A B : Type 0} (a : Dec A) (b : Dec B) → (A → B) → one_if a ≤ one_if b
+one_if_le (yes x) (yes y) f = omega arith
+one_if_le (yes x) (no y) f = absurd (y (f x))
+one_if_le (no x) b f = zero-le
 
-one_if_less : {A B : Type 0} (a : Dec A) (b : Dec B) (m n : ℕ) → (A → ⊥) → B → m ≤ n → suc (one_if a m) ≤ one_if b n
-one_if_less (yes x) b m n f y h = absurd (f x)
-one_if_less (no x) (yes z) m n f y h = omega arith
-one_if_less (no x) (no z) m n f y h = absurd (z y)
-
-one_if_still : {A B : Type 0} {m n : ℕ} (a : Dec A) (b : Dec B) → (A → B) → suc m ≤ n → suc (one_if a m) ≤ one_if b n
-one_if_still (yes x) (yes z) g h = omega arith
-one_if_still (yes x) (no z) g h = absurd (z (g x))
-one_if_still (no x) (yes z) g h = omega arith
-one_if_still (no x) (no z) g h = h
+one_if_less : {A B : Type 0} (a : Dec A) (b : Dec B) → (A → ⊥) → B → one_if a < one_if b
+one_if_less (yes x) b f y = absurd (f x)
+one_if_less (no x) (yes z) f y = omega arith
+one_if_less (no x) (no z) f y = absurd (z y)
 
 module _ {C : Type 0} {P Q : C → Type 0} (p : (c : C) → Dec (P c)) (q : (c : C) → Dec (Q c)) (f : (c : C) → P c → Q c) where
   counted_le : (cs : List C) → counted p cs ≤ counted q cs
   unfolding counted
   counted_le [] = zero-le
-  counted_le (c ∷ cs) = one_if_le (p c) (q c) _ _ (f c) (counted_le cs)
+  counted_le (c ∷ cs) = omega (arith, one_if_le (p c) (q c) (f c), counted_le cs)
 
   counted_less : (cs : List C) {d : C} → Memᴰ d cs → (P d → ⊥) → Q d → suc (counted p cs) ≤ counted q cs
   unfolding counted
   counted_less [] m n y = elim m [ ]
-  counted_less (c ∷ cs) (Memᴰ.head e) n y = one_if_less (p c) (q c) _ _ (λ x. n (subst P (sym e) x)) (subst Q e y) (counted_le cs)
-  counted_less (c ∷ cs) (Memᴰ.tail m) n y = one_if_still (p c) (q c) (f c) (counted_less cs m n y)
+  counted_less (c ∷ cs) (Memᴰ.head e) n y = omega (arith, one_if_less (p c) (q c) (λ x. n (subst P (sym e) x)) (subst Q e y), counted_le cs)
+  counted_less (c ∷ cs) (Memᴰ.tail m) n y = omega (arith, one_if_le (p c) (q c) (f c), counted_less cs m n y)
 
 module _ {S C : Type 0} (M : Meaning S) (laws : Laws M) (y : System C S) (n : ℕ) where
   stricter? : (a b : Option S) → Dec (Stricter M a b)

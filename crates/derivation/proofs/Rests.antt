@@ -1,14 +1,15 @@
 -- What a settled membership rests on by its reason is settled, and enrolled.
-use Rattle.std.proofs.Common.{◌≡◌, ℕ, zero, suc, ◌<◌, ◌≤◌, ◌⊎◌, List, [], ◌∷◌, map, length, Some, None, Option, sym, refl, ap, ◌∙◌, subst, inl, inr, arith}
+use Rattle.std.proofs.Common.{◌≡◌, ℕ, zero, suc, ◌<◌, ◌≤◌, ◌⊎◌, List, [], map, length, Some, None, Option, sym, refl, ap, ◌∙◌, subst, inl, inr, arith}
 use mathlib.Core.List.{Memᴰ}
 use Rattle.std.specs.List.{slice_get}
-use Rattle.std.proofs.lemmas.Option.{slice_get_past}
+use Rattle.std.proofs.lemmas.Option.{get_or_from_slice_get, slice_get_past, slice_get_within}
+use Rattle.std.proofs.lemmas.List.Elements.{All-from_recursion}
 use Rattle.credential.specs.declared.Record.{Record}
 use Rattle.credential.specs.declared.Body.{Body}
 use Rattle.credential.specs.declared.Body.TheVariants.{Member, Delegation, Link, Intersection}
 use Rattle.credential.specs.Same.{Credential}
 use Rattle.scale.specs.Scale.{Meaning, Laws, Chooses, AtLeast}
-use Rattle.scale.specs.Order.{none_some, some_is, weight_same}
+use Rattle.scale.specs.Order.{weight_same}
 use Rattle.rules.specs.declared.memberships.Membership.{Membership}
 use Rattle.rules.specs.System.{Table, product, weighs}
 use Rattle.rules.specs.Ways.{belongs, role_of, Way, ways}
@@ -24,9 +25,7 @@ use Rattle.heads.specs.Enrolled.{RoleIn, BodyIn, CredentialIn, AllIn}
 use Rattle.derivation.proofs.Ranks.{premise_settled}
 
 pub credential_in : (E : ℕ) (cs : List Credential) (i : ℕ) (c : Credential) → AllIn E cs → slice_get cs i ≡ Some c → CredentialIn E c
-credential_in E [] i c all e = absurd (none_some e)
-credential_in E (d ∷ cs) zero c all e = subst (CredentialIn E) (some_is e) all.0
-credential_in E (d ∷ cs) (suc i) c all e = credential_in E cs i c all.1 e
+credential_in E cs i c all e = subst (CredentialIn E) (get_or_from_slice_get cs i c c e) (All-from_recursion (CredentialIn E) cs all i c (slice_get_within cs i c e))
 
 module _ {S : Type 0} (M : Meaning S) (laws : Laws M) (chooses : Chooses M) (E : ℕ) (cs : List Credential) where
   -- the premises of what has a weight have weights

@@ -3,6 +3,7 @@ use Rattle.std.proofs.Common.{◌≡◌, ℕ, zero, suc, ◌*◌, ◌<◌, ◌�
 use mathlib.Core.List.{Memᴰ}
 use Rattle.std.specs.List.{slice_get}
 use Rattle.std.proofs.lemmas.List.{get_or-map, length-map}
+use Rattle.std.proofs.lemmas.Option.{slice_get-get_or}
 use Rattle.credential.specs.declared.Record.{Record}
 use Rattle.credential.specs.declared.Body.{Body}
 use Rattle.credential.specs.declared.Body.TheVariants.{Member, Delegation, Link, Intersection}
@@ -19,14 +20,10 @@ use Rattle.heads.proofs.Cells.{length_cells}
 use Rattle.walk.specs.declared.reasons.CellStep.{CellStep}
 use Rattle.walk.specs.Walk.{Premise, Acyclic}
 use Rattle.derivation.specs.Trail.{cell_count, cell_of, cell_step, step_by, step_at, HasReasons}
+use Rattle.derivation.proofs.Places.{nth_mem}
 use Rattle.derivation.proofs.Ranks.{rank, rank_falls}
 use Rattle.derivation.proofs.Rests.{enrolled, resting, earning, rests_settled, rests_nothing, middle_known}
 use Rattle.derivation.proofs.Located.{no_members, nowhere, at, found, has_cell, member_is}
-
-mem_get_or : {X : Type 0} (xs : List X) (i : ℕ) (d : X) → i < length xs → Memᴰ (get_or xs i d) xs
-mem_get_or [] i d h = absurd (omega arith)
-mem_get_or (x ∷ xs) zero d h = Memᴰ.head refl
-mem_get_or (x ∷ xs) (suc i) d h = Memᴰ.tail (mem_get_or xs i d (omega arith))
 
 module _ (cs : List Credential) (E : ℕ) (why : Reason) (x : ℕ) where
   premise_of : (ps : List Membership) (p : ℕ) → Premise (cell_step cs E why x ps) p → (q : Membership) × Memᴰ q ps × (cell_of cs E q ≡ Some p)
@@ -121,7 +118,7 @@ module _ {S : Type 0} {M : Meaning S} {E : ℕ} {cs : List Credential} {reasons 
   falls_by c p (no h) (no k) l is =
       let r = premise_rests c p l is in
       let e = resting M g.laws g.chooses E cs n (at E cs c) h in
-      rank_falls M g.laws (system M E cs) n (cells E cs) (at E cs c) (at E cs p) (earning M g.laws g.chooses E cs n (at E cs c) e) (earning M g.laws g.chooses E cs n (at E cs p) (resting M g.laws g.chooses E cs n (at E cs p) k)) (mem_get_or (cells E cs) p nowhere (omega (arith, length_cells E (heads cs), r.1))) (subst (Memᴰ (at E cs p)) e.rests r.0)
+      rank_falls M g.laws (system M E cs) n (cells E cs) (at E cs c) (at E cs p) (earning M g.laws g.chooses E cs n (at E cs c) e) (earning M g.laws g.chooses E cs n (at E cs p) (resting M g.laws g.chooses E cs n (at E cs p) k)) (nth_mem (cells E cs) p (at E cs p) (slice_get-get_or (cells E cs) p nowhere (omega (arith, length_cells E (heads cs), r.1)))) (subst (Memᴰ (at E cs p)) e.rests r.0)
 
   -- reasons never lead back
   pub acyclic : Acyclic (step_at cs E reasons) (cell_count cs E)
