@@ -9,13 +9,14 @@ use Rattle.credential.specs.declared.Record.{Record}
 use Rattle.credential.specs.declared.Body.{Body}
 use Rattle.credential.specs.declared.Body.TheVariants.{Member, Delegation, Link, Intersection}
 use Rattle.credential.specs.Same.{Credential}
-use Rattle.scale.specs.Scale.{Meaning, Laws, Chooses, combined}
+use Rattle.scale.specs.Scale.{Meaning, combined}
 use Rattle.scale.specs.Order.{some_is, combine_full_right}
 use Rattle.rules.specs.declared.memberships.Membership.{Membership}
+use Rattle.rules.specs.declared.memberships.Reason.{Reason}
 use Rattle.rules.specs.declared.memberships.Step.{Step}
 use Rattle.rules.specs.System.{product}
 use Rattle.rules.specs.Ways.{belongs, role_of}
-use Rattle.rules.specs.Tables.{weight_by, table, Still, Settled}
+use Rattle.rules.specs.Tables.{weight_by, table, Settled}
 use Rattle.rules.specs.Derivation.{same_membership, Concluded, concluded, exactly, cited, by_rule, weighed, by_credential, follow, Stands, no_step, one_more, Derivation}
 use Rattle.rules.specs.Grants.{place_in, cite, rests_on, Reached, here, onward, Listing, step_in, Granted}
 use Rattle.rules.proofs.Listed.{Named}
@@ -23,14 +24,15 @@ use Rattle.rules.proofs.Earning.{reasons_weigh}
 use Rattle.rules.proofs.Steps.{membership_self}
 use Rattle.derivation.proofs.Places.{nth_taken, place_there}
 use Rattle.derivation.proofs.Rests.{Resting, resting, rests_settled}
+use Rattle.derivation.proofs.Trails.{Grounded}
 
-module _ {S : Type 0} (M : Meaning S) (laws : Laws M) (chooses : Chooses M) (E : ℕ) (cs : List Credential) (n : ℕ) (still : Still M E cs n) (goal : Membership) (settled : Settled M E cs n goal) where
+module _ {S : Type 0} {M : Meaning S} {E : ℕ} {cs : List Credential} {reasons : List Reason} {goal : Membership} {n : ℕ} (g : Grounded M E cs reasons goal n) where
   abbrev final : Membership → Option S
   final = table M E cs n
 
   reached_settled : (q : Membership) → Reached M E cs n goal q → Settled M E cs n q
-  reached_settled q here = settled
-  reached_settled q (onward {q = b} r m) = rests_settled M laws chooses E cs n b q (reached_settled b r) m
+  reached_settled q here = g.reasoned.settled
+  reached_settled q (onward {q = b} r m) = rests_settled M g.laws g.chooses E cs n b q (reached_settled b r) m
 
   abbrev weight_or : Option S → S
   weight_or None = M.full
@@ -62,14 +64,14 @@ module _ {S : Type 0} (M : Meaning S) (laws : Laws M) (chooses : Chooses M) (E :
           ap (λ i. exactly p (slice_get before i)) e
           ∙ ap (exactly p) (nth_taken conclusion order k j.0 p j.1 j.2)
           ∙ cond-true (same_membership p p) (Some (weight_or (final p))) None (membership_self p)
-          ∙ sym (weight_is (final p) (rests_settled M laws chooses E cs n q p here_settled m))
+          ∙ sym (weight_is (final p) (rests_settled M g.laws g.chooses E cs n q p here_settled m))
 
-      module _ (r : Resting M laws chooses E cs n q) where
+      module _ (r : Resting M g.laws g.chooses E cs n q) where
         middle_is : (step q).middle.0 ≡ r.way.middle
         middle_is = ap (λ y. y.middle.0) r.because_of
 
         weighs_it : weight_by M (table M E cs n) r.way ≡ final q
-        weighs_it = reasons_weigh M laws E cs n still q r.way r.earned
+        weighs_it = reasons_weigh M g.laws E cs n g.reasoned.still q r.way r.earned
 
         -- with no premise, one or two
         module _ (is : rests_on M E cs n q ≡ []) where
@@ -99,7 +101,7 @@ module _ {S : Type 0} (M : Meaning S) (laws : Laws M) (chooses : Chooses M) (E :
             let is = r.rests ∙ named.2 in
             cond-true _ (cited before (step q).first p) None (and_from _ _ (eq-eqb _ 0 (middle_is ∙ named.0)) (eq-eqb _ 0 (ap (λ ps. cite order (slice_get ps 1)) is)))
             ∙ cites_first p [] is
-            ∙ sym (combine_full_right M laws (final p))
+            ∙ sym (combine_full_right M g.laws (final p))
             ∙ sym (ap₂ (λ v ps. product M v (map final ps)) named.1 named.2)
             ∙ weighs_it
         gives (Link b t) named =
@@ -108,7 +110,7 @@ module _ {S : Type 0} (M : Meaning S) (laws : Laws M) (chooses : Chooses M) (E :
             let is = r.rests ∙ named.1 in
             ap (λ i. combined M (cited before (step q).first (belongs b i)) (cited before (step q).second (belongs (role_of i t) q.member.0))) middle_is
             ∙ ap₂ (combined M) (cites_first p (o ∷ []) is) (cites_second p o is)
-            ∙ ap (combined M (final p)) (sym (combine_full_right M laws (final o)))
+            ∙ ap (combined M (final p)) (sym (combine_full_right M g.laws (final o)))
             ∙ sym (ap₂ (λ v ps. product M v (map final ps)) named.0 named.1)
             ∙ weighs_it
         gives (Intersection b c) named =
@@ -117,13 +119,13 @@ module _ {S : Type 0} (M : Meaning S) (laws : Laws M) (chooses : Chooses M) (E :
             let is = r.rests ∙ named.2 in
             cond-true _ (combined M (cited before (step q).first p) (cited before (step q).second o)) None (eq-eqb _ 0 (middle_is ∙ named.0))
             ∙ ap₂ (combined M) (cites_first p (o ∷ []) is) (cites_second p o is)
-            ∙ ap (combined M (final p)) (sym (combine_full_right M laws (final o)))
+            ∙ ap (combined M (final p)) (sym (combine_full_right M g.laws (final o)))
             ∙ sym (ap₂ (λ v ps. product M v (map final ps)) named.1 named.2)
             ∙ weighs_it
 
       follows : follow M cs (map conclusion (take k order)) (step_in M E cs n order q) ≡ Some (conclusion q)
       follows =
-          let r = resting M laws chooses E cs n q here_settled in
+          let r = resting M g.laws g.chooses E cs n q here_settled in
           ap (λ y. by_credential M before (step q) (slice_get cs y.place)) r.because_of
           ∙ ap (by_credential M before (step q)) r.at
           ∙ ap (weighed M (belongs r.credential.head q.member.0)) (gives r r.credential.body r.named ∙ weight_is (final q) here_settled)
@@ -155,7 +157,7 @@ module _ {S : Type 0} (M : Meaning S) (laws : Laws M) (chooses : Chooses M) (E :
 
   -- the steps that a grant wrote
   pub grant_derives : (old new : List Step) (count : ℕ) → Granted M E cs n goal old new count → (w : S) → final goal ≡ Some w → Derivation M cs goal w (take count new)
-  grant_derives old new count g w is =
-      let made = map (step_in M E cs n g.order) g.order in
-      let front : take count new ≡ made = ap (take count) g.written ∙ take_at made (drop (length g.order) old) count (length-map g.order (step_in M E cs n g.order) ∙ sym g.many) in
-      subst (Derivation M cs goal w) (sym front) (derives g.order g.listing w is)
+  grant_derives old new count grant w is =
+      let made = map (step_in M E cs n grant.order) grant.order in
+      let front : take count new ≡ made = ap (take count) grant.written ∙ take_at made (drop (length grant.order) old) count (length-map grant.order (step_in M E cs n grant.order) ∙ sym grant.many) in
+      subst (Derivation M cs goal w) (sym front) (derives grant.order grant.listing w is)

@@ -10,7 +10,7 @@ use Rattle.scale.specs.Order.{some_is}
 use Rattle.rules.specs.declared.memberships.Membership.{Membership}
 use Rattle.rules.specs.declared.memberships.Reason.{Reason}
 use Rattle.rules.specs.declared.memberships.Step.{Step}
-use Rattle.rules.specs.Tables.{Settled, reason}
+use Rattle.rules.specs.Tables.{reason}
 use Rattle.rules.specs.Grants.{place_in, cite, rests_on, Reached, here, onward, Listing, step_in, Granted}
 use Rattle.walk.specs.declared.reasons.CellStep.{CellStep}
 use Rattle.walk.specs.Walk.{Reached as CellReached, here as cell_here, onward as cell_onward}
@@ -19,31 +19,31 @@ use Rattle.walk.proofs.Grants.{place_is, map_same}
 use Rattle.derivation.specs.Trail.{cell_count, cell_of, cell_if, step_at}
 use Rattle.derivation.proofs.Places.{nth_mem, nth_mapped, nth_made, place_there}
 use Rattle.derivation.proofs.Located.{at, cell_back}
-use Rattle.derivation.proofs.Trails.{Grounded, leads_is, settled_at, premise_rests, rests_premise}
+use Rattle.derivation.proofs.Trails.{Grounded, leads_is, goal_at, premise_rests, rests_premise}
 
-module _ {S : Type 0} {M : Meaning S} {E : ℕ} {cs : List Credential} {reasons : List Reason} {n : ℕ} (g : Grounded M E cs reasons n) (goal : Membership) (settled : Settled M E cs n goal) (cell : ℕ) (found : cell_of cs E goal ≡ Some cell) where
+module _ {S : Type 0} {M : Meaning S} {E : ℕ} {cs : List Credential} {reasons : List Reason} {goal : Membership} {n : ℕ} (g : Grounded M E cs reasons goal n) (cell : ℕ) (found : cell_of cs E goal ≡ Some cell) where
   abbrev leads : ℕ → CellStep
   leads = step_at cs E reasons
 
   abbrev member : ℕ → Membership
   member = at E cs
 
-  goal_at : (at E cs cell ≡ goal) × (cell < cell_count cs E)
-  goal_at = settled_at g goal cell settled found
+  goal_is : (at E cs cell ≡ goal) × (cell < cell_count cs E)
+  goal_is = goal_at g cell found
 
   back : (c : ℕ) → c < cell_count cs E → cell_of cs E (at E cs c) ≡ Some c
   back c l = cell_back E cs c l
 
   -- what is reached, by cell and by membership
   reached_in : (c : ℕ) → CellReached (step_at cs E reasons) cell c → (c < cell_count cs E) × Reached M E cs n goal (at E cs c)
-  reached_in c cell_here = (goal_at.1, subst (Reached M E cs n goal) (sym goal_at.0) here)
+  reached_in c cell_here = (goal_is.1, subst (Reached M E cs n goal) (sym goal_is.0) here)
   reached_in c (cell_onward {c = b} r is) =
       let p = reached_in b r in
       let q = premise_rests g b c p.0 is in
       (q.1, onward p.1 q.0)
 
   reached_cell : (q : Membership) → Reached M E cs n goal q → (c : ℕ) × CellReached (step_at cs E reasons) cell c × (at E cs c ≡ q)
-  reached_cell q here = (cell, cell_here, goal_at.0)
+  reached_cell q here = (cell, cell_here, goal_is.0)
   reached_cell q (onward {q = b} r m) =
       let k = reached_cell b r in
       let p = rests_premise g k.0 q (reached_in k.0 k.1).0 (subst (λ z. Memᴰ q (rests_on M E cs n z)) (sym k.2) m) in
@@ -97,7 +97,7 @@ module _ {S : Type 0} {M : Meaning S} {E : ℕ} {cs : List Credential} {reasons 
           (k.0, nth_made member order 0 k.0 k.1 ∙ ap (λ z. Some (member z)) k.2 ∙ ap Some c.2);
       last =
           let k = length order - 1 in
-          (k, length-map order member ∙ omega (arith, listing.some), nth_made member order 0 k (omega (arith, listing.some)) ∙ ap (λ z. Some (member z)) listing.last ∙ ap Some goal_at.0);
+          (k, length-map order member ∙ omega (arith, listing.some), nth_made member order 0 k (omega (arith, listing.some)) ∙ ap (λ z. Some (member z)) listing.last ∙ ap Some goal_is.0);
     }
 
     cites : (k : ℕ) → k < length order → (o : Option Membership) → ((p : Membership) → o ≡ Some p → Memᴰ p (rests_on M E cs n (at E cs (get_or order k 0)))) → place_of order (cell_if cs E o) ≡ cite (map (at E cs) order) o

@@ -13,16 +13,17 @@ use Rattle.scale.specs.Order.{none_some, weight_same}
 use Rattle.rules.specs.declared.memberships.Membership.{Membership}
 use Rattle.rules.specs.declared.memberships.Reason.{Reason}
 use Rattle.rules.specs.Tables.{no_reason, system, table, Settled, reason}
-use Rattle.rules.specs.Cells.{heads, cells, reasons_after}
+use Rattle.rules.specs.Cells.{heads, cells}
 use Rattle.rules.specs.Grants.{rests_with, rests_on}
-use Rattle.heads.specs.Enrolled.{AllIn}
+use Rattle.heads.specs.Enrolled.{RoleIn, AllIn}
 use Rattle.heads.proofs.Cells.{length_cells}
 use Rattle.walk.specs.declared.reasons.CellStep.{CellStep}
 use Rattle.walk.specs.Walk.{Premise, Acyclic}
 use Rattle.derivation.specs.Trail.{cell_count, cell_of, cell_step, step_by, step_at, HasReasons}
+use Rattle.derivation.specs.Explained.{Reasoned}
 use Rattle.derivation.proofs.Places.{nth_mem}
 use Rattle.derivation.proofs.Ranks.{rank, rank_falls}
-use Rattle.derivation.proofs.Rests.{enrolled, resting, earning, rests_settled, rests_nothing, middle_known}
+use Rattle.derivation.proofs.Rests.{enrolled, resting, earning, rests_settled, rests_nothing, role_known, middle_known}
 use Rattle.derivation.proofs.Located.{no_members, nowhere, at, found, has_cell, member_is}
 
 module _ (cs : List Credential) (E : ℕ) (why : Reason) (x : ℕ) where
@@ -54,24 +55,24 @@ pub some_entities : (E many c : ℕ) → c < many * E → 0 < E
 some_entities zero many c l = absurd (omega arith)
 some_entities (suc E) many c l = omega arith
 
--- reasons after n rounds of a source that can be settled, on a lawful scale
-pub record Grounded {S : Type 0} (M : Meaning S) (E : ℕ) (cs : List Credential) (reasons : List Reason) (n : ℕ) : Type 0 where
+-- a goal explained by the reasons of a table that a source settles on a lawful scale
+pub record Grounded {S : Type 0} (M : Meaning S) (E : ℕ) (cs : List Credential) (reasons : List Reason) (goal : Membership) (n : ℕ) : Type 0 where
   pub laws : Laws M
   pub chooses : Chooses M
   pub known : AllIn E cs
   pub short : length cs ≤ 512
-  pub are : reasons ≡ reasons_after M E cs n
+  pub reasoned : Reasoned M E cs reasons goal n
 
-module _ {S : Type 0} {M : Meaning S} {E : ℕ} {cs : List Credential} {reasons : List Reason} {n : ℕ} (g : Grounded M E cs reasons n) where
+module _ {S : Type 0} {M : Meaning S} {E : ℕ} {cs : List Credential} {reasons : List Reason} {goal : Membership} {n : ℕ} (g : Grounded M E cs reasons goal n) where
   abbrev leads : ℕ → CellStep
   leads = step_at cs E reasons
 
   reason_at : (c : ℕ) → c < cell_count cs E → get_or reasons c no_reason ≡ reason M E cs n (at E cs c)
-  reason_at c l = ap (λ rs. get_or rs c no_reason) g.are ∙ get_or-map (reason M E cs n) (cells E cs) c nowhere no_reason (omega (arith, length_cells E (heads cs)))
+  reason_at c l = ap (λ rs. get_or rs c no_reason) g.reasoned.are ∙ get_or-map (reason M E cs n) (cells E cs) c nowhere no_reason (omega (arith, length_cells E (heads cs)))
 
   pub has_reasons : HasReasons cs E reasons
   has_reasons = record {
-    each = omega (arith, ap length g.are, length-map (cells E cs) (reason M E cs n), length_cells E (heads cs));
+    each = omega (arith, ap length g.reasoned.are, length-map (cells E cs) (reason M E cs n), length_cells E (heads cs));
     middles = λ c l. subst (λ y. y.middle.0 < E) (sym (reason_at c l)) (middle_known M g.laws g.chooses E cs n g.known (some_entities E (length (heads cs)) c l) (at E cs c));
   }
 
@@ -84,6 +85,18 @@ module _ {S : Type 0} {M : Meaning S} {E : ℕ} {cs : List Credential} {reasons 
 
   pub settled_at : (q : Membership) (p : ℕ) → Settled M E cs n q → cell_of cs E q ≡ Some p → (at E cs p ≡ q) × (p < cell_count cs E)
   settled_at q p s e = found E cs q (enrolled M g.laws g.chooses E cs g.known n q s) p e
+
+  pub goal_member : goal.member.0 < E
+  goal_member = enrolled M g.laws g.chooses E cs g.known n goal g.reasoned.settled
+
+  pub goal_role : RoleIn E goal.role
+  goal_role = role_known M g.laws g.chooses E cs n g.known goal g.reasoned.settled
+
+  pub goal_cell : (p : ℕ) × (cell_of cs E goal ≡ Some p)
+  goal_cell = settled_cell goal g.reasoned.settled
+
+  pub goal_at : (cell : ℕ) → cell_of cs E goal ≡ Some cell → (at E cs cell ≡ goal) × (cell < cell_count cs E)
+  goal_at cell found = settled_at goal cell g.reasoned.settled found
 
   -- only what is settled rests on something
   pub rests_only : (q p : Membership) → Memᴰ p (rests_on M E cs n q) → Settled M E cs n q

@@ -1,8 +1,8 @@
 use Rattle.std.proofs.Common.{refl, sym, ◌∙◌}
 use Rattle.source.specs.Shows.{stated}
 use Rattle.heads.proofs.Fewer.{few_cells}
-use Rattle.derivation.proofs.Trails.{has_reasons, acyclic}
-use Rattle.derivation.proofs.Explaining.{ground, goal_member, goal_role, goal_cell, cell_inside, explained}
+use Rattle.derivation.proofs.Trails.{has_reasons, goal_role, goal_member, goal_cell, goal_at, acyclic}
+use Rattle.derivation.proofs.Explaining.{ground, explained}
 use Rattle.derivation.proofs.explanation.explain.Goals as goal
 
 pub invariant_of-trail : goal.invariant_of-trail
@@ -10,28 +10,28 @@ invariant_of-trail g c =
     let a = c.args.admitted.now in
     record { has_reasons = has_reasons (ground g.met.S.Scale.laws g.met.S.Scale.chooses a.known a.short c.requires.settled.1) }
 
-pub cell_of-requires-clause-role : goal.cell_of-requires-clause-role
-cell_of-requires-clause-role g c = let a = c.args.admitted.now in goal_role g.met.S.Scale.laws g.met.S.Scale.chooses a.known a.short c.requires.settled.1
-
-pub cell_of-requires-clause-member : goal.cell_of-requires-clause-member
-cell_of-requires-clause-member g c = let a = c.args.admitted.now in goal_member g.met.S.Scale.laws g.met.S.Scale.chooses a.known a.short c.requires.settled.1
+pub cell_of-requires : goal.cell_of-requires
+cell_of-requires g c =
+    let a = c.args.admitted.now in
+    let by = ground g.met.S.Scale.laws g.met.S.Scale.chooses a.known a.short c.requires.settled.1 in
+    record { role = goal_role by; member = goal_member by }
 
 pub unwrap-cell-requires : goal.unwrap-cell-requires
 unwrap-cell-requires g c =
     let a = c.args.admitted.now in
-    let there = goal_cell g.met.S.Scale.laws g.met.S.Scale.chooses a.known a.short c.requires.settled.1 in
+    let there = goal_cell (ground g.met.S.Scale.laws g.met.S.Scale.chooses a.known a.short c.requires.settled.1) in
     rw (c.cell_of.ensures, there.1) refl
 
-pub write_grant-requires-clause-acyclic : goal.write_grant-requires-clause-acyclic
-write_grant-requires-clause-acyclic g c = let a = c.args.admitted.now in acyclic (ground g.met.S.Scale.laws g.met.S.Scale.chooses a.known a.short c.requires.settled.1)
-
-pub write_grant-requires-clause-small : goal.write_grant-requires-clause-small
-write_grant-requires-clause-small g c = let a = c.args.admitted.now in few_cells a.entities _ (stated (g.R.Source.shows a.source.now)) a.few a.short refl
-
-pub write_grant-requires-clause-inside : goal.write_grant-requires-clause-inside
-write_grant-requires-clause-inside g c =
+pub write_grant-requires : goal.write_grant-requires
+write_grant-requires g c =
     let a = c.args.admitted.now in
-    cell_inside g.met.S.Scale.laws g.met.S.Scale.chooses a.known a.short c.requires.settled.1 c.unwrap-cell.result (sym c.cell_of.ensures ∙ c.unwrap-cell.ensures)
+    let by = ground g.met.S.Scale.laws g.met.S.Scale.chooses a.known a.short c.requires.settled.1 in
+    record {
+      acyclic = acyclic by;
+      small = few_cells a.entities _ (stated (g.R.Source.shows a.source.now)) a.few a.short refl;
+      inside = (goal_at by c.unwrap-cell.result (sym c.cell_of.ensures ∙ c.unwrap-cell.ensures)).1;
+      room = c.requires.room;
+    }
 
 pub returns : goal.returns
 returns g c =
