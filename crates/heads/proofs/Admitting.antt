@@ -1,6 +1,6 @@
 -- What is not bad has enrolled numbers.
-use Rattle.std.proofs.Common.{◌≡◌, ℕ, suc, ◌≤◌, Bool, true, false, cond, not, List, [], ◌∷◌, length, refl, arith}
-use Rattle.std.proofs.lemmas.Bool.{and_parts, ltb-true, ltb-false}
+use Rattle.std.proofs.Common.{◌≡◌, ℕ, suc, ◌≤◌, Bool, true, false, cond, not, List, [], ◌∷◌, length, nat_lt, refl, arith}
+use Rattle.std.proofs.lemmas.Bool.{and_parts, ltb-true, ltb-false, le-ltb}
 use Rattle.credential.specs.declared.Role.{Role}
 use Rattle.credential.specs.declared.Record.{Record}
 use Rattle.credential.specs.declared.Body.{Body}
@@ -13,7 +13,7 @@ use Rattle.heads.specs.Enrolled.{RoleIn, BodyIn, CredentialIn, AllIn}
 
 pub not_false : (b : Bool) → not b ≡ false → b ≡ true
 not_false true e = refl
-not_false false e = absurd (let z : ◌≡◌ {A = ℕ} 0 1 = cc in omega arith)
+not_false false e = cc
 
 module _ {S : Type 0} (M : Meaning S) (E R : ℕ) (few : R ≤ 32) where
   pub role_in : (r : Role) → role_enrolled E R r ≡ true → RoleIn E r
@@ -31,12 +31,9 @@ module _ {S : Type 0} (M : Meaning S) (E R : ℕ) (few : R ≤ 32) where
       record { head = role_in c.head k.0; body = body_in c.body k.1 }
 
   pub all_in : (cs : List Credential) → among (bad M E R) cs ≡ false → AllIn E cs
-  all_in cs h = go cs (ltb-false (first (bad M E R) cs) (length cs) h)
+  all_in [] h = tt
+  all_in (c ∷ cs) h = by (bad M E R c) refl h (all_in cs)
     where
-      go : (cs : List Credential) → length cs ≤ first (bad M E R) cs → AllIn E cs
-      go [] h = tt
-      go (c ∷ cs) h = by (bad M E R c) refl h (go cs)
-        where
-          by : (v : Bool) → bad M E R c ≡ v → suc (length cs) ≤ cond v 0 (suc (first (bad M E R) cs)) → (length cs ≤ first (bad M E R) cs → AllIn E cs) → CredentialIn E c × AllIn E cs
-          by true e h again = absurd (omega arith)
-          by false e h again = (good_in c e, again (omega arith))
+      by : (v : Bool) → bad M E R c ≡ v → nat_lt (cond v 0 (suc (first (bad M E R) cs))) (suc (length cs)) ≡ false → (among (bad M E R) cs ≡ false → AllIn E cs) → CredentialIn E c × AllIn E cs
+      by true e h again = absurd (omega (arith, ltb-false _ _ h))
+      by false e h again = (good_in c e, again (le-ltb _ _ (omega (arith, ltb-false _ _ h))))

@@ -4,7 +4,7 @@ use lib.ListN.{length-map}
 use Rattle.std.specs.Option.{option_map}
 use Rattle.std.proofs.lemmas.List.{get_or_append_left, get_or-append_right, get_or_push, get_or-map}
 use Rattle.std.proofs.lemmas.Bool.{cases_lt}
-use Rattle.scale.specs.Order.{none_some, some_is}
+use Rattle.scale.specs.Order.{some_is}
 use Rattle.credential.specs.declared.Role.{Role}
 use Rattle.credential.specs.Same.{same_role}
 use Rattle.rules.specs.declared.memberships.Membership.{Membership}
@@ -38,7 +38,7 @@ module _ (E : ℕ) where
   length_cells (r ∷ rs) = length-append (map (belongs r) (below E)) (cells_of E rs) ∙ omega (arith, length_row r, length_cells rs, suc-mul (length rs) E)
 
   pub cell_of : (rs : List Role) (r : Role) (h x : ℕ) → number rs r ≡ Some h → x < E → (h * E + x < length (cells_of E rs)) × ((d : Membership) → get_or (cells_of E rs) (h * E + x) d ≡ belongs r x)
-  cell_of [] r h x e l = absurd (none_some e)
+  cell_of [] r h x e l = cc
   cell_of (b ∷ rs) r h x e l = by (which b r) (cell_of rs r)
     where
       by : ((b ≡ r) × (same_role b r ≡ true)) ⊎ ((b ≡ r → ⊥) × (same_role b r ≡ false)) → ((k y : ℕ) → number rs r ≡ Some k → y < E → (k * E + y < length (cells_of E rs)) × ((d : Membership) → get_or (cells_of E rs) (k * E + y) d ≡ belongs r y)) → (h * E + x < length (cells_of E (b ∷ rs))) × ((d : Membership) → get_or (cells_of E (b ∷ rs)) (h * E + x) d ≡ belongs r x)
@@ -78,7 +78,7 @@ module _ (E : ℕ) where
           later c (which b c.role)
         where
           later : (c : Cell rs (i - E)) → ((b ≡ c.role) × (same_role b c.role ≡ true)) ⊎ ((b ≡ c.role → ⊥) × (same_role b c.role ≡ false)) → Cell (b ∷ rs) i
-          later c (inl p) = absurd (none_some (sym u.0 ∙ ap (number rs) p.0 ∙ c.numbered))
+          later c (inl p) = cc (ap (number rs) p.0, u.0, c.numbered)
           later c (inr p) = record {
             role = c.role;
             head = suc c.head;

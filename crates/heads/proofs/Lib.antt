@@ -4,4 +4,3 @@ pub mod Distinct
 pub mod Fewer
 pub mod Numbering
 pub mod Roles
-pub mod Stated

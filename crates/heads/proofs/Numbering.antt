@@ -1,8 +1,7 @@
 -- The numbers of the heads, one credential more at a time.
-use Rattle.std.proofs.Common.{◌≡◌, ℕ, suc, ◌+◌, ◌<◌, Bool, true, false, cond, ◌≢◌, List, [], ◌∷◌, ◌++◌, length, get_or, take, set, replicate, Some, None, Option, sym, refl, ap, ◌∙◌, subst, ap₂, inl, inr, append-nil, arith, length-append, length-set}
+use Rattle.std.proofs.Common.{◌≡◌, ℕ, suc, ◌+◌, Bool, true, false, cond, ◌≢◌, List, [], ◌∷◌, ◌++◌, length, get_or, set, replicate, Some, None, Option, sym, refl, ap, ◌∙◌, subst, ap₂, inl, inr, append-nil, arith, length-append, length-set}
 use Rattle.std.specs.Option.{option_map}
-use Rattle.std.proofs.lemmas.List.{get_or-set_same, get_or-set_other, get_or-replicate, length-replicate, take_more}
-use Rattle.scale.specs.Order.{none_some}
+use Rattle.std.proofs.lemmas.List.{get_or-set_same, get_or-set_other, get_or-replicate, length-replicate}
 use Rattle.credential.specs.declared.Role.{Role}
 use Rattle.credential.specs.Same.{Credential, same_role}
 use Rattle.rules.specs.Cells.{others, heads, number}
@@ -10,24 +9,24 @@ use Rattle.heads.specs.declared.index.HeadIndex.{HeadIndex}
 use Rattle.heads.specs.Slots.{slot}
 use Rattle.heads.specs.Index.{noted_as, noted, Indexed}
 use Rattle.heads.specs.Enrolled.{RoleIn}
-use Rattle.heads.proofs.Roles.{which, numbered_first, numbered_later}
-use Rattle.heads.proofs.Distinct.{Which, skipped, kept, not_first, none_later, others_keeps, others_back}
+use Rattle.heads.proofs.Roles.{which, numbered_later}
+use Rattle.heads.proofs.Distinct.{Which, not_first, others_keeps, others_back}
 
 -- the number among some with one put last
 pub number_kept : (rs : List Role) (r a : Role) (h : ℕ) → number rs a ≡ Some h → number (rs ++ (r ∷ [])) a ≡ number rs a
-number_kept [] r a h e = absurd (none_some e)
+number_kept [] r a h e = cc
 number_kept (b ∷ rs) r a h e = by (which b a) (number rs a) refl (number_kept rs r a)
   where
     by : Which b a → (n : Option ℕ) → number rs a ≡ n → ((k : ℕ) → number rs a ≡ Some k → number (rs ++ (r ∷ [])) a ≡ number rs a) → number (b ∷ (rs ++ (r ∷ []))) a ≡ number (b ∷ rs) a
-    by (inl p) n k again = numbered_first b (rs ++ (r ∷ [])) a p.1 ∙ sym (numbered_first b rs a p.1)
-    by (inr p) None k again = absurd (none_some (ap (option_map suc) (sym k) ∙ sym (numbered_later b rs a p.1) ∙ e))
-    by (inr p) (Some j) k again = numbered_later b (rs ++ (r ∷ [])) a p.1 ∙ ap (option_map suc) (again j k) ∙ sym (numbered_later b rs a p.1)
+    by (inl p) n k again = rw p.1
+    by (inr p) None k again = cc (ap (option_map suc) k, numbered_later b rs a p.1)
+    by (inr p) (Some j) k again = rw (p.1, again j k)
 
 pub number_last : (rs : List Role) (r a : Role) → number rs a ≡ None → number (rs ++ (r ∷ [])) a ≡ cond (same_role r a) (Some (length rs)) None
 number_last [] r a e = refl
 number_last (b ∷ rs) r a e =
     let f = not_first b rs a e in
-    numbered_later b (rs ++ (r ∷ [])) a f.1 ∙ ap (option_map suc) (number_last rs r a f.2) ∙ push (same_role r a)
+    rw (f.1, number_last rs r a f.2) (push (same_role r a))
   where
     push : (v : Bool) → option_map suc (cond v (Some (length rs)) None) ≡ cond v (Some (suc (length rs))) None
     push true = refl
@@ -45,30 +44,16 @@ others_append r (a ∷ xs) ys = by (same_role a r) (others_append r xs ys)
 pub heads_end : (cs : List Credential) (c : Credential) → heads (cs ++ (c ∷ [])) ≡ noted (heads cs) c.head
 heads_end [] c = refl
 heads_end (d ∷ cs) c =
-    ap (λ rs. d.head ∷ others d.head rs) (heads_end cs c)
-    ∙ by (which d.head c.head) (which c.head d.head) (number hs c.head) refl (number (others d.head hs) c.head) refl
+    rw (heads_end cs c) (by (which d.head c.head) (which c.head d.head) (number (heads cs) c.head) refl (number (others d.head (heads cs)) c.head) refl)
   where
-    hs : List Role
-    hs = heads cs
-
     by : Which d.head c.head → Which c.head d.head → (n : Option ℕ) → number (heads cs) c.head ≡ n → (k : Option ℕ) → number (others d.head (heads cs)) c.head ≡ k → d.head ∷ others d.head (noted (heads cs) c.head) ≡ noted (d.head ∷ others d.head (heads cs)) c.head
-    by (inl p) q (Some h) e k f =
-        ap (λ n. d.head ∷ others d.head (noted_as n (heads cs) c.head)) e
-        ∙ sym (ap (λ n. noted_as n (d.head ∷ others d.head (heads cs)) c.head) (numbered_first d.head (others d.head (heads cs)) c.head p.1))
+    by (inl p) q (Some h) e k f = rw (e, p.1)
     by (inl p) (inr q) None e k f = absurd (q.0 (sym p.0))
-    by (inl p) (inl q) None e k f =
-        ap (λ n. d.head ∷ others d.head (noted_as n (heads cs) c.head)) e
-        ∙ ap (λ rs. d.head ∷ rs) (others_append d.head (heads cs) (c.head ∷ []) ∙ ap (λ rs. others d.head (heads cs) ++ rs) (skipped d.head c.head [] q.1) ∙ append-nil (others d.head (heads cs)))
-        ∙ sym (ap (λ n. noted_as n (d.head ∷ others d.head (heads cs)) c.head) (numbered_first d.head (others d.head (heads cs)) c.head p.1))
+    by (inl p) (inl q) None e k f = rw (e, p.1, others_append, q.1, append-nil)
     by (inr p) (inl q) n e k f = absurd (p.0 (sym q.0))
-    by (inr p) (inr q) None e k f =
-        ap (λ n. d.head ∷ others d.head (noted_as n (heads cs) c.head)) e
-        ∙ ap (λ rs. d.head ∷ rs) (others_append d.head (heads cs) (c.head ∷ []) ∙ ap (λ rs. others d.head (heads cs) ++ rs) (kept d.head c.head [] q.1))
-        ∙ sym (ap (λ n. noted_as n (d.head ∷ others d.head (heads cs)) c.head) (none_later d.head (others d.head (heads cs)) c.head p.1 (others_keeps d.head c.head (heads cs) e)))
-    by (inr p) (inr q) (Some h) e None f = absurd (none_some (sym (others_back d.head c.head (heads cs) p.0 f) ∙ e))
-    by (inr p) (inr q) (Some h) e (Some j) f =
-        ap (λ n. d.head ∷ others d.head (noted_as n (heads cs) c.head)) e
-        ∙ sym (ap (λ n. noted_as n (d.head ∷ others d.head (heads cs)) c.head) (numbered_later d.head (others d.head (heads cs)) c.head p.1 ∙ ap (option_map suc) f))
+    by (inr p) (inr q) None e k f = rw (e, p.1, others_keeps d.head c.head (heads cs) e, others_append, q.1)
+    by (inr p) (inr q) (Some h) e None f = cc (others_back d.head c.head (heads cs) p.0 f)
+    by (inr p) (inr q) (Some h) e (Some j) f = rw (e, p.1, f)
 
 slots_apart : (a b : Role) → RoleIn 64 a → RoleIn 64 b → slot a ≡ slot b → a ≡ b
 slots_apart a b ha hb e =
@@ -106,7 +91,7 @@ index_more index rs ix r known k here empty = subst (Indexed after) (sym (ap (λ
         ap (λ j. get_or (set index.numbers k (Some index.count)) j None) (ap slot (sym p.0) ∙ sym here)
         ∙ get_or-set_same index.numbers k (Some index.count) None (omega (arith, here, known.entity, known.name, ix.long))
         ∙ ap Some ix.count
-        ∙ sym (number_last rs r a (ap (number rs) (sym p.0) ∙ absent) ∙ ap (λ (v : Bool). cond v (Some (length rs)) None) p.1)
+        ∙ sym (rw p.1 at (number_last rs r a (ap (number rs) (sym p.0) ∙ absent)))
     by a h (inr p) n q =
         let other : slot a ≢ k = λ z. p.0 (sym (slots_apart a r h known (z ∙ here))) in
         get_or-set_other index.numbers k (slot a) (Some index.count) None other
@@ -114,8 +99,5 @@ index_more index rs ix r known k here empty = subst (Indexed after) (sym (ap (λ
         ∙ sym (ends n q)
       where
         ends : (n : Option ℕ) → number rs a ≡ n → number (rs ++ (r ∷ [])) a ≡ number rs a
-        ends None q = number_last rs r a q ∙ ap (λ (v : Bool). cond v (Some (length rs)) None) p.1 ∙ sym q
+        ends None q = (rw p.1 at (number_last rs r a q)) ∙ sym q
         ends (Some k) q = number_kept rs r a k q
-
-pub heads_more : (cs : List Credential) (p : ℕ) (c : Credential) → p < length cs → get_or cs p c ≡ c → heads (take (p + 1) cs) ≡ noted (heads (take p cs)) c.head
-heads_more cs p c h e = ap heads (take_more cs p c h ∙ ap (λ d. take p cs ++ (d ∷ [])) e) ∙ heads_end (take p cs) c

@@ -2,7 +2,6 @@
 use Rattle.std.proofs.Common.{◌≡◌, ℕ, suc, ◌+◌, ◌*◌, ◌<◌, ◌≤◌, Bool, true, false, cond, ◌⊎◌, List, [], ◌∷◌, Some, None, Option, sym, refl, ap, ◌∙◌, subst, inl, inr, mul-le-mul_right, suc-mul, arith}
 use Rattle.std.specs.Option.{option_map}
 use Rattle.std.proofs.lemmas.Bool.{false≢true, cases_lt}
-use Rattle.scale.specs.Order.{none_some, some_is}
 use Rattle.credential.specs.declared.Role.{Role}
 use Rattle.credential.specs.Same.{same_role}
 use Rattle.rules.specs.Cells.{number}
@@ -24,33 +23,30 @@ numbered_later b rs r e = ap (λ (v : Bool). cond v (Some 0) (option_map suc (nu
 
 -- a number that is one more
 pub one_less : (o : Option ℕ) (h : ℕ) → option_map suc o ≡ Some h → (k : ℕ) × (o ≡ Some k) × (h ≡ suc k)
-one_less None h e = absurd (none_some e)
-one_less (Some k) h e = (k, refl, sym (some_is e))
+one_less None h e = cc
+one_less (Some k) h e = (k, refl, cc)
 
 pub none_less : (o : Option ℕ) → option_map suc o ≡ None → o ≡ None
 none_less None e = refl
-none_less (Some k) e = absurd (none_some (sym e))
+none_less (Some k) e = cc
 
 -- a number names one role
 pub same_number : (rs : List Role) (r a : Role) (h : ℕ) → number rs r ≡ Some h → number rs a ≡ Some h → r ≡ a
-same_number [] r a h e f = absurd (none_some e)
+same_number [] r a h e f = cc
 same_number (b ∷ rs) r a h e f = by (which b r) (which b a) (same_number rs r a)
   where
     by : ((b ≡ r) × (same_role b r ≡ true)) ⊎ ((b ≡ r → ⊥) × (same_role b r ≡ false)) → ((b ≡ a) × (same_role b a ≡ true)) ⊎ ((b ≡ a → ⊥) × (same_role b a ≡ false)) → ((k : ℕ) → number rs r ≡ Some k → number rs a ≡ Some k → r ≡ a) → r ≡ a
-    by (inl p) (inl q) again = sym p.0 ∙ q.0
+    by (inl p) (inl q) again = cc
     by (inl p) (inr q) again =
-        let z : 0 ≡ h = some_is (sym (numbered_first b rs r p.1) ∙ e) in
         let k = one_less (number rs a) h (sym (numbered_later b rs a q.1) ∙ f) in
-        absurd (omega (arith, k.2))
+        cc (numbered_first b rs r p.1, k.2)
     by (inr p) (inl q) again =
-        let z : 0 ≡ h = some_is (sym (numbered_first b rs a q.1) ∙ f) in
         let k = one_less (number rs r) h (sym (numbered_later b rs r p.1) ∙ e) in
-        absurd (omega (arith, k.2))
+        cc (numbered_first b rs a q.1, k.2)
     by (inr p) (inr q) again =
         let k = one_less (number rs r) h (sym (numbered_later b rs r p.1) ∙ e) in
         let j = one_less (number rs a) h (sym (numbered_later b rs a q.1) ∙ f) in
-        let w : j.0 ≡ k.0 = omega (arith, k.2, j.2) in
-        again k.0 k.1 (j.1 ∙ ap Some w)
+        again k.0 k.1 (cc (j.1, j.2, k.2))
 
 -- rows of different numbers have no cell in common
 pub rows_apart : (E h to x y : ℕ) → (h ≡ to → ⊥) → x < E → y < E → h * E + x ≡ to * E + y → ⊥

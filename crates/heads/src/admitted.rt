@@ -23,6 +23,7 @@ pub struct Admitted<'a, R: Source> {
 
 impl<'a, R: Source> Admitted<'a, R> {
     // A cell for each member that each head may have.
+    #[tactic(auto, using(crate::proofs::Fewer::few_cells))]
     pub fn cells(&self) -> usize
         ensures value { result ≡ length (heads (stated (R.Source.shows self.now.source.now))) * self.now.entities }
         ensures bound { result ≤ 32768 }

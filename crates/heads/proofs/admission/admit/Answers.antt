@@ -1,4 +1,5 @@
 use Rattle.std.proofs.Common.{length, ◌++◌, sym, ap, ◌∙◌, subst, arith, length-append, append_assoc, append-nil}
+use lib.ListN.{length-map}
 use Rattle.std.proofs.lemmas.Grind.{common_steps}
 use Rattle.book.specs.Kept.{entities, role_names}
 use Rattle.book.proofs.Counts.{few_role_names}
@@ -9,13 +10,12 @@ use Rattle.heads.specs.Index.{Indexed}
 use Rattle.heads.proofs.Admitting.{all_in}
 use Rattle.heads.proofs.Fewer.{heads_fewer}
 use Rattle.heads.proofs.Numbering.{heads_end}
-use Rattle.heads.proofs.Stated.{length_stated}
 use Rattle.heads.proofs.admission.admit.Goals as goal
 
 pub note-requires-clause-room : goal.note-requires-clause-room
 note-requires-clause-room g c =
     let all = ap length c.loop-place.invariant.all in
-    omega (arith, c.loop-place.invariant.numbered.count, heads_fewer c.loop-place.yielded, length-append c.loop-place.yielded c.loop-place.c-iterator, length_stated (g.R.Source.shows c.args.source.now), c.requires.few)
+    omega (arith, c.loop-place.invariant.numbered.count, heads_fewer c.loop-place.yielded, length-append c.loop-place.yielded c.loop-place.c-iterator, length-map (g.R.Source.shows c.args.source.now) (λ s. s.credential), c.requires.few)
 
 pub loop-place-preserved : goal.loop-place-preserved
 loop-place-preserved g c =
