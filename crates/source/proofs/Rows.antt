@@ -1,7 +1,8 @@
 -- What stands at a place of a list that is made of others.
-use Rattle.std.proofs.Common.{◌≡◌, ℕ, zero, suc, ◌+◌, ◌-◌, ◌<◌, ◌≤◌, List, [], ◌∷◌, ◌++◌, length, take, Some, None, sym, refl, ap, ◌∙◌, append_assoc, arith, length-take}
+use Rattle.std.proofs.Common.{◌≡◌, ℕ, zero, suc, ◌+◌, ◌-◌, ◌<◌, ◌≤◌, List, [], ◌∷◌, ◌++◌, length, take, Some, None, sym, refl, ap, ◌∙◌, append_assoc, arith, length-append, length-take, min}
 use Rattle.std.specs.List.{slice_get}
 use Rattle.std.specs.Option.{option_map}
+use Rattle.std.proofs.lemmas.List.{take-take}
 use Rattle.std.proofs.lemmas.Option.{slice_get_past}
 use Rattle.credential.specs.Same.{Credential}
 use Rattle.source.specs.Shows.{Shown, layer_from, layer, joined, JoinsAssociate}
@@ -29,14 +30,8 @@ module _ {X : Type 0} where
   cut_front (suc n) [] ys = refl
   cut_front (suc n) (x ∷ xs) ys = ap (λ l. x ∷ l) (cut_front n xs ys)
 
-  cut_twice : (n m : ℕ) (xs : List X) → n ≤ m → take n (take m xs) ≡ take n xs
-  cut_twice zero m xs h = refl
-  cut_twice (suc n) zero xs h = absurd (omega arith)
-  cut_twice (suc n) (suc m) [] h = refl
-  cut_twice (suc n) (suc m) (x ∷ xs) h = ap (λ l. x ∷ l) (cut_twice n m xs (omega arith))
-
   cut_back : (n m : ℕ) (xs ys : List X) → n ≤ m → take n (xs ++ take m ys) ≡ take n (xs ++ ys)
-  cut_back n m [] ys h = cut_twice n m ys h
+  cut_back n m [] ys h = take-take n m ys h
   cut_back zero m (x ∷ xs) ys h = refl
   cut_back (suc n) m (x ∷ xs) ys h = ap (λ l. x ∷ l) (cut_back n m xs ys (omega arith))
 
@@ -45,6 +40,9 @@ module _ {X : Type 0} where
 
 pub joins_associate : JoinsAssociate
 joins_associate xs ys zs = cuts_associate 65535 xs ys zs
+
+pub length_joined : (xs ys : List Shown) → length (joined xs ys) ≡ min (length xs + length ys) 65535
+length_joined xs ys = simp (length-take, length-append) (omega arith)
 
 -- what a join shows at a place
 module _ (xs ys : List Shown) (i : ℕ) where

@@ -35,6 +35,7 @@ impl<A: Source, B: Source> Source for Join<A, B> {
 
     ghost short = { λ j. cut_short (A.Source.shows j.first) (B.Source.shows j.second) };
 
+    #[tactic(auto, using(crate::proofs::Rows::length_joined))]
     fn count(&self) -> usize {
         (self.first.count() + self.second.count()).min(MOST)
     }

@@ -17,6 +17,7 @@ const BOOK: u8 = 1;
 // The layer of the slip.
 const SLIP: u8 = 2;
 
+#[tactic(auto, using(crate::proofs::Rows::layer_shows, std::proofs::lemmas::Option::gets))]
 fn shown_in(number: u8, list: &[Credential], place: usize) -> Option<Shown>
     requires { length list.now ≤ 65535 }
     ensures { result ≡ slice_get (layer number list.now) place }
@@ -34,6 +35,7 @@ impl Source for Book {
 
     ghost short = { book_short };
 
+    #[tactic(auto, using(crate::specs::Short::length_layer, crate::specs::Short::book_short))]
     fn count(&self) -> usize {
         self.credentials().len()
     }
@@ -48,6 +50,7 @@ impl Source for Slip {
 
     ghost short = { slip_short };
 
+    #[tactic(auto, using(crate::specs::Short::length_layer, crate::specs::Short::slip_short))]
     fn count(&self) -> usize {
         self.credentials().len()
     }
