@@ -13,6 +13,9 @@ use Rattle.reader.specs.declared.tokens.Verb.TheVariants as verb
 use Rattle.reader.specs.Tokens.{Tok, one, role, link, number, mark, token_of}
 use Rattle.reader.specs.Verbs.{verb_of}
 use Rattle.reader.specs.Grammar.{Command, enrol, add, withdraw, present, Got, then, picked, fit, a_role, a_number, a_sign, a_word, just, role_in, weight_at, second_at, body_by, body_at, statement_at, weighed_at, credential_at, command_by, command_at, header_at, done, closed, line_by, command_line, first_line}
+use Rattle.reader.specs.declared.faults.Malformed.{Malformed}
+use Rattle.reader.specs.declared.sentence.Command as code
+use Rattle.reader.specs.Told.{told_command, at_byte}
 use Rattle.reader.proofs.Chains.{then_then}
 use Rattle.reader.proofs.Verbing.{verb_text, is_verb, verb_test}
 use Rattle.reader.specs.Patterns.{Wanted, this, any, ENTITY, ROLE, LINKED, NUMBER, sign, fits, Pattern, patterns, header_patterns, left_of, none, fault, unless_ended, line_fault, fault_of, names_entity, names_linked}
@@ -213,3 +216,7 @@ command_place = line command_at patterns command
 
 pub header_place : (bs : List ℕ) (ended : Bool) → fault_of (first_line bs ended) ≡ line_fault header_patterns bs ended
 header_place = line header_at header_patterns header
+
+-- the same of what `parse` answers
+pub command_placed : (r : Result code.Command Malformed) (bs : List ℕ) (ended : Bool) → at_byte told_command r ≡ command_line bs ended → fault_of (at_byte told_command r) ≡ line_fault patterns bs ended
+command_placed r bs ended e = ap fault_of e ∙ command_place bs ended

@@ -8,3 +8,4 @@ pub mod Calls
 pub mod Answers
 pub mod Patterns
 pub mod RoundTrip
+pub mod Reads

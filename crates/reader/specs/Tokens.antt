@@ -23,8 +23,8 @@ abbrev pub said : Token → Tok
 said (token.Entity a) = one (told a)
 said (token.Role r) = role (told r.entity) (told r.name)
 said (token.Link r s) = link (told r.entity) (told r.name) (told s)
-said (token.Number w n) = number n
-said (token.Mark w s) = mark s
+said (token.Number n) = number n
+said (token.Mark s) = mark s
 
 -- `&` and `:`, and `<-`
 abbrev pub sign_of : List ℕ → Option Sign

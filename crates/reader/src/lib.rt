@@ -8,4 +8,5 @@ pub mod sentence;
 pub mod tokens;
 
 pub use faults::{Malformed, ReadFault, Unknown};
+pub use grammar::Line;
 pub use sentence::{Command, Phrase, RoleText, Sentence};

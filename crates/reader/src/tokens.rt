@@ -1,8 +1,7 @@
 // What one word says.
 ghost use Rattle.std.specs.Prelude.{◌≡◌};
 ghost use Rattle.std.specs.Option.{option_map};
-ghost use Rattle.std.specs.Str.{bytes_eq};
-ghost use Rattle.words.specs.Cursor.{told, Fits};
+ghost use Rattle.words.specs.Cursor.{told};
 ghost use Rattle.reader.specs.Tokens.{said, sign_of, single, token_of};
 ghost use Rattle.reader.specs.Verbs.{verb_of};
 
@@ -29,35 +28,25 @@ pub enum Verb {
     Present,
 }
 
-// A word of a statement: its names, signs and numbers are parts of the line, with their places.
+// A word of a statement: its names are parts of the line, with their places.
 #[derive(Clone, Copy)]
 pub enum Token<'a> {
     Entity(Part<'a>),
     Role(RoleText<Part<'a>>),
     Link(RoleText<Part<'a>>, Part<'a>),
-    Number(Part<'a>, i32),
-    Mark(Part<'a>, Sign),
-}
-
-pub(crate) fn is(word: &[u8], text: &[u8]) -> bool
-    ensures { result ≡ bytes_eq word.now text.now }
-{
-    word == text
+    Number(i32),
+    Mark(Sign),
 }
 
 pub(crate) fn read_verb(word: &[u8]) -> Option<Verb>
     ensures { result ≡ verb_of word.now }
 {
-    if is(word, b"enrol") {
-        Some(Verb::Enrol)
-    } else if is(word, b"add") {
-        Some(Verb::Add)
-    } else if is(word, b"withdraw") {
-        Some(Verb::Withdraw)
-    } else if is(word, b"present") {
-        Some(Verb::Present)
-    } else {
-        None
+    match word {
+        b"enrol" => Some(Verb::Enrol),
+        b"add" => Some(Verb::Add),
+        b"withdraw" => Some(Verb::Withdraw),
+        b"present" => Some(Verb::Present),
+        _ => None,
     }
 }
 
@@ -73,42 +62,29 @@ fn read_sign(word: &[u8]) -> Option<Sign>
 }
 
 // A word with no dot.
-fn undotted<'a>(a: Part<'a>) -> Option<Token<'a>>
-    ensures { option_map said result ≡ single (told a.entry) }
+fn undotted<'a>(word: Part<'a>) -> Option<Token<'a>>
+    ensures { option_map said result ≡ single (told word.entry) }
 {
-    if is_entity(a.text) {
-        return Some(Token::Entity(a));
+    if is_entity(word.text) {
+        return Some(Token::Entity(word));
     }
-    match read_sign(a.text) {
-        Some(s) => Some(Token::Mark(a, s)),
-        None => match read_integer(a.text) {
-            Some(n) => Some(Token::Number(a, n)),
-            None => None,
-        },
-    }
+    read_sign(word.text).map(|sign| Token::Mark(sign)).or_else(|| read_integer(word.text).map(
+        |number| Token::Number(number),
+    ))
 }
 
 pub(crate) fn read_token<'a>(word: Part<'a>) -> Option<Token<'a>>
-    requires { Fits word }
     ensures { option_map said result ≡ token_of (told word.entry) }
 {
     let mut parts = word.split(b'.');
-    let entity = parts.next()?;
-    let Some(name) = parts.next() else {
-        return undotted(entity);
-    };
-    let Some(last) = parts.next() else {
-        if is_entity(entity.text) && is_role_name(name.text) {
-            return Some(Token::Role(RoleText { entity, name }));
+    match (parts.next(), parts.next(), parts.next(), parts.next()) {
+        (Some(entity), None, _, _) => undotted(entity),
+        (Some(entity), Some(name), None, _) if is_entity(entity.text) && is_role_name(name.text) =>
+            { Some(Token::Role(RoleText { entity, name })) }
+        (Some(entity), Some(name), Some(linked), None)
+            if is_entity(entity.text) && is_role_name(name.text) && is_role_name(linked.text) => {
+            Some(Token::Link(RoleText { entity, name }, linked))
         }
-        return None;
-    };
-    if parts.next().is_none()
-        && is_entity(entity.text)
-        && is_role_name(name.text)
-        && is_role_name(last.text)
-    {
-        return Some(Token::Link(RoleText { entity, name }, last));
+        _ => None,
     }
-    None
 }

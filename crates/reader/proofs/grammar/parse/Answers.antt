@@ -1,11 +1,6 @@
-use Rattle.std.proofs.Common.{◌≡◌, ap, ◌∙◌, rules}
-use Rattle.reader.specs.Grammar.{command_line}
-use Rattle.reader.specs.Told.{told_command, at_byte}
-use Rattle.reader.specs.Patterns.{fault_of}
-use Rattle.reader.proofs.Places.{command_place}
+use Rattle.std.proofs.Common.{Ok, rules}
+use Rattle.reader.proofs.Places.{command_placed}
 use Rattle.reader.proofs.grammar.parse.Goals as goal
 
-pub returns : goal.returns
-returns c =
-    let value : at_byte told_command c.command_alone.result ≡ command_line c.args.line.now c.args.ended = search rules in
-    record { value = value; place = ap fault_of value ∙ command_place c.args.line.now c.args.ended }
+pub returns-clause-place : goal.returns-clause-place
+returns-clause-place c = command_placed (Ok c.in_ok-command.command) c.args.line.text.now c.args.line.ended (search rules)
