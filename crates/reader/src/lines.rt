@@ -31,7 +31,7 @@ pub enum Reply {
 
 // The number of a name.
 fn named<N: NameNumber>(register: &Register, word: Part) -> Result<N, Unknown>
-    ensures { unknown_at N.number result ≡ known (names_of N.kind register.now) (told word.entry) }
+    ensures { unknown_at N.number result ≡ known (names_of N.KIND register.now) (told word.entry) }
 {
     register.find(word.text).ok_or(Unknown { byte: word.byte })
 }
