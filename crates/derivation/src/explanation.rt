@@ -18,9 +18,9 @@ pub fn explain<R: Source, S: Scale>(
     goal: Membership,
     steps: &mut [Step],
 ) -> usize
-    requires settled { (n : ℕ) × Reasoned S.Scale.meaning admitted.now.entities (stated (R.Source.shows admitted.now.source.now)) reasons.now goal n }
-    requires room { cell_count (stated (R.Source.shows admitted.now.source.now)) admitted.now.entities ≤ length steps.old }
-    ensures { Explained S.Scale.meaning admitted.now.entities (stated (R.Source.shows admitted.now.source.now)) reasons.now goal steps.old steps.new result }
+    requires settled { let a = admitted.now in (n : ℕ) × Reasoned S.Scale.meaning a.entities (stated (R.Source.shows a.source.now)) reasons.now goal n }
+    requires room { let a = admitted.now in cell_count (stated (R.Source.shows a.source.now)) a.entities ≤ length steps.old }
+    ensures { let a = admitted.now in Explained S.Scale.meaning a.entities (stated (R.Source.shows a.source.now)) reasons.now goal steps.old steps.new result }
 {
     let trail = Trail { admitted, reasons };
     let cell = trail.cell_of(goal.role, goal.member).unwrap();

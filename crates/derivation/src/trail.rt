@@ -23,7 +23,7 @@ impl<'a, R: Source> Trail<'a, R> {
     pub fn cell_of(&self, role: Role, member: Entity) -> Option<u16>
         requires role { RoleIn self.now.admitted.now.entities role }
         requires member { member.0 < self.now.admitted.now.entities }
-        ensures { result ≡ cell_of (stated (R.Source.shows self.now.admitted.now.source.now)) self.now.admitted.now.entities (record { role = role; member = member }) }
+        ensures { let a = self.now.admitted.now in result ≡ cell_of (stated (R.Source.shows a.source.now)) a.entities (record { role = role; member = member }) }
     {
         let entities = self.admitted.entities;
         self.admitted
@@ -41,8 +41,10 @@ impl<'a, R: Source> Trail<'a, R> {
         requires body { IfSome credential (λ c. BodyIn self.now.admitted.now.entities c.body) }
         requires member { member.0 < self.now.admitted.now.entities }
         requires middle { middle.0 < self.now.admitted.now.entities }
-        ensures first { result.0 ≡ cell_if (stated (R.Source.shows self.now.admitted.now.source.now)) self.now.admitted.now.entities (slice_get (rests_with member.0 middle.0 credential) 0) }
-        ensures second { result.1 ≡ cell_if (stated (R.Source.shows self.now.admitted.now.source.now)) self.now.admitted.now.entities (slice_get (rests_with member.0 middle.0 credential) 1) }
+        ensures { let a = self.now.admitted.now in
+            let cs = stated (R.Source.shows a.source.now) in
+            let ps = rests_with member.0 middle.0 credential in
+            result ≡ (cell_if cs a.entities (slice_get ps 0), cell_if cs a.entities (slice_get ps 1)) }
     {
         match credential.map(|c| c.body) {
             None | Some(Body::Member(_, _)) => (None, None),
@@ -60,9 +62,9 @@ impl<'a, R: Source> Trail<'a, R> {
 }
 
 impl<'a, R: Source> Reasons for Trail<'a, R> {
-    ghost cells = { λ t. cell_count (stated (R.Source.shows t.admitted.now.source.now)) t.admitted.now.entities };
+    ghost cells = { λ t. let a = t.admitted.now in cell_count (stated (R.Source.shows a.source.now)) a.entities };
 
-    ghost leads = { λ t. step_at (stated (R.Source.shows t.admitted.now.source.now)) t.admitted.now.entities t.reasons.now };
+    ghost leads = { λ t. let a = t.admitted.now in step_at (stated (R.Source.shows a.source.now)) a.entities t.reasons.now };
 
     fn step_of(&self, cell: u16) -> CellStep {
         let Reason { place, middle } = self.reasons[cell as usize];

@@ -1,4 +1,4 @@
-use Rattle.std.proofs.Common.{refl, sym, ◌∙◌}
+use Rattle.std.proofs.Common.{refl, ap, is_some, sym, ◌∙◌}
 use Rattle.source.specs.Shows.{stated}
 use Rattle.heads.proofs.Fewer.{few_cells}
 use Rattle.derivation.proofs.Trails.{has_reasons, goal_role, goal_member, goal_cell, goal_at, acyclic}
@@ -20,7 +20,7 @@ pub unwrap-cell-requires : goal.unwrap-cell-requires
 unwrap-cell-requires g c =
     let a = c.args.admitted.now in
     let there = goal_cell (ground g.met.S.Scale.laws g.met.S.Scale.chooses a.known a.short c.requires.settled.1) in
-    rw (c.cell_of.ensures, there.1) refl
+    ap is_some (c.cell_of.ensures ∙ there.1)
 
 pub write_grant-requires : goal.write_grant-requires
 write_grant-requires g c =

@@ -8,4 +8,4 @@ pub returns : goal.returns
 returns g c =
     let a = c.args.self.now.admitted.now in
     step_shown (g.R.Source.shows a.source.now) a.entities c.args.self.now.reasons.now c.args.cell _ c.args.self.now.has_reasons c.requires
-    c.credential-credential.result c.credential-credential.ensures _ _ c.premises-first.ensures.first c.premises-first.ensures.second
+    c.credential-credential.result c.credential-credential.ensures c.premises-first.result c.premises-first.ensures
