@@ -1,6 +1,5 @@
 -- From what is ruled to what decide promises.
-use Rattle.std.proofs.Common.{◌≡◌, ℕ, ◌-◌, ◌≤◌, Bool, true, false, cond, ◌||◌, ltb, List, ◌++◌, length, drop, Some, None, Ok, sym, refl, ap, ◌∙◌, subst, ap₂, arith}
-use borrow.Rule.Slice.PartMut.{post_of, Post-is}
+use Rattle.std.proofs.Common.{◌≡◌, ℕ, ◌≤◌, Bool, true, false, cond, ◌||◌, ltb, List, ◌++◌, length, drop, Some, None, Ok, sym, refl, ap, subst, ap₂, arith}
 use Rattle.std.proofs.lemmas.Bool.{ltb-false}
 use Rattle.credential.specs.declared.Record.{Record}
 use Rattle.scale.specs.Scale.{Meaning}
@@ -26,8 +25,8 @@ roomy ls n e = go (ltb (length ls.former) n) (ltb (length ls.latest) n) (ltb (le
     go false false false false p q r s e = (ltb-false _ _ p, ltb-false _ _ q, ltb-false _ _ r, ltb-false _ _ s)
 
 -- the front of a lent list is written, and all beyond is unchanged
-pub fronted : {X : Type 0} (ws vs xs : List X) (need many : ℕ) → ws ≡ vs → need ≡ many → ws ++ post_of 0 (need - 0) xs ≡ vs ++ drop many xs
-fronted ws vs xs need many e i = ap₂ (λ a b. a ++ b) e (Post-is 0 need xs (omega arith) ∙ ap (λ k. drop k xs) i)
+pub fronted : {X : Type 0} (ws vs xs : List X) (need many : ℕ) → ws ≡ vs → need ≡ many → ws ++ drop need xs ≡ vs ++ drop many xs
+fronted ws vs xs need many e i = ap₂ (λ a b. a ++ b) e (ap (λ k. drop k xs) i)
 
 module _ {S : Type 0} (M : Meaning S) (E R : ℕ) (xs : List Shown) (goal : Membership) (threshold : Record) (before after : Lists S) (v : Verdict S) (asked : S) where
   pub decided : unfit M E R goal threshold xs ≡ None → false ≡ short before (many_cells E (stated xs)) → M.threshold threshold ≡ Some asked → Ruled M E (stated xs) goal asked before after v → Decided M E R xs goal threshold before after (Ok v)

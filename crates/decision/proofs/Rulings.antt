@@ -1,5 +1,6 @@
 -- What the settled weight of the goal says of its derivations.
-use Rattle.std.proofs.Common.{◌≡◌, ℕ, zero, suc, ◌<◌, ◌≤◌, List, [], ◌∷◌, Some, Option, sym, refl, ap, ◌∙◌, subst, arith}
+use Rattle.std.proofs.Common.{◌≡◌, ℕ, zero, suc, ◌<◌, Bool, cond, List, [], ◌∷◌, Some, None, Option, sym, refl, ap, ◌∙◌, subst, arith}
+use Rattle.std.proofs.lemmas.Bool.{lt-ltb}
 use Rattle.credential.specs.declared.Record.{Record}
 use Rattle.credential.specs.declared.Body.{Body}
 use Rattle.credential.specs.declared.Body.TheVariants.{Member, Delegation, Link, Intersection}
@@ -11,15 +12,13 @@ use Rattle.rules.specs.declared.memberships.Step.{Step}
 use Rattle.rules.specs.Derivation.{Derivation}
 use Rattle.rules.specs.Tables.{table}
 use Rattle.rules.specs.Theorems.{MemberBelow, MembersEnrolled}
-use Rattle.rules.specs.Cells.{heads, weights_after}
+use Rattle.rules.specs.Cells.{heads, number, weights_after}
 use Rattle.rules.proofs.Order.{at_least_trans}
 use Rattle.rules.proofs.Steps.{derivations_below, derivation_reaches}
-use Rattle.heads.specs.Enrolled.{RoleIn, BodyIn, AllIn}
-use Rattle.heads.specs.Index.{Indexed, head_at}
+use Rattle.heads.specs.Enrolled.{BodyIn, AllIn}
 use Rattle.settle.specs.Entries.{weight_at}
 use Rattle.settle.specs.Settled.{Settles}
 use Rattle.settle.proofs.Beyond.{shown_table}
-use Rattle.settle.proofs.Bodies.{read_at}
 use Rattle.decision.specs.declared.verdict.Verdict.TheVariants.{Granted, Denied}
 use Rattle.decision.specs.Decided.{Backed, StepsLeft, Verdicts}
 
@@ -36,10 +35,11 @@ members_enrolled E (d ∷ cs) known (suc p) c e = members_enrolled E cs known.1 
 
 module _ {S : Type 0} (M : Meaning S) (laws : Laws M) (E : ℕ) (cs : List Credential) (known : AllIn E cs) (goal : Membership) where
   -- what the list has for the goal is its settled weight
-  pub goal_weight : (index : List ℕ) → Indexed index (heads cs) → E ≤ 64 → RoleIn E goal.role → goal.member.0 < E → (n : ℕ) (ws : List (Option S)) → ws ≡ weights_after M E cs n → weight_at ws E (head_at index goal.role) goal.member.0 ≡ table M E cs n goal
-  goal_weight index ix few role member n ws is =
-      ap (λ (vs : List (Option S)). weight_at vs E (head_at index goal.role) goal.member.0) is
-      ∙ read_at M laws index (heads cs) ix E few (weights_after M E cs n) goal.role role goal.member.0 member
+  pub goal_weight : goal.member.0 < E → (head : Option ℕ) → head ≡ number (heads cs) goal.role → (n : ℕ) (ws : List (Option S)) → ws ≡ weights_after M E cs n → weight_at ws E head goal.member.0 ≡ table M E cs n goal
+  goal_weight member head at n ws is =
+      ap (λ (h : Option ℕ). weight_at ws E h goal.member.0) at
+      ∙ ap (λ (vs : List (Option S)). weight_at vs E (number (heads cs) goal.role) goal.member.0) is
+      ∙ ap (λ (v : Bool). cond v (weight_at (weights_after M E cs n) E (number (heads cs) goal.role) goal.member.0) None) (sym (lt-ltb goal.member.0 E member))
       ∙ ap (λ (t : Membership → Option S). t goal) (shown_table M laws E cs known n)
 
   module _ (n : ℕ) (settles : Settles M E cs n) where

@@ -1,5 +1,5 @@
 -- When decide refuses: each condition is tried alone, in this order.
-use Rattle.std.specs.Prelude.{◌≡◌, ℕ, ◌*◌, ◌≤◌, Bool, true, false, cond, not, ◌&&◌, ◌||◌, List, length, is_some, Some, None, Ok, Err, Option, Result, nat_lt}
+use Rattle.std.specs.Prelude.{ℕ, ◌*◌, Bool, cond, not, ◌&&◌, ◌||◌, List, length, is_some, Some, None, Option, nat_lt}
 use Rattle.std.specs.Option.{option_map}
 use Rattle.credential.specs.declared.Record.{Record}
 use Rattle.credential.specs.Same.{Credential}
@@ -11,9 +11,7 @@ use Rattle.rules.specs.declared.memberships.Reason.{Reason}
 use Rattle.rules.specs.declared.memberships.Step.{Step}
 use Rattle.rules.specs.Cells.{heads}
 use Rattle.heads.specs.Admitted.{bad}
-use Rattle.heads.specs.Index.{Indexed}
-use Rattle.decision.specs.declared.verdict.DecideRefusal.{DecideRefusal}
-use Rattle.decision.specs.Answers.{Refused, refused, refused_at, refused_for_want_of, told}
+use Rattle.decision.specs.Answers.{Refused, refused, refused_at, refused_for_want_of}
 
 -- what the lent lists hold
 pub record Lists (S : Type 0) : Type 0 where
@@ -57,16 +55,3 @@ module _ {S : Type 0} (M : Meaning S) (E R : ℕ) (goal : Membership) (threshold
 
   abbrev pub refusal : Lists S → Option Refused
   refusal ls = or_else unfit (cramped ls)
-
-  -- what is known where the goal, the threshold and the source are fit: for the inner functions
-  pub record Fit (index : List ℕ) (asked : S) (many : ℕ) : Type 0 where
-    pub enrolled : goal_enrolled E R goal ≡ true
-    pub asks : M.threshold threshold ≡ Some asked
-    pub few : length xs ≤ 512
-    pub good : among (bad M E R) (stated xs) ≡ false
-    pub indexed : Indexed index (heads (stated xs))
-    pub many_heads : many ≡ length (heads (stated xs))
-
-  abbrev pub Admission : List ℕ → Result (S × ℕ) DecideRefusal → Type 0
-  Admission index (Ok p) = (unfit ≡ None) × Fit index p.0 p.1
-  Admission index (Err e) = Some (told e) ≡ unfit

@@ -1,13 +1,13 @@
 // The refusals of goal, threshold and source.
-ghost use Rattle.std.specs.Prelude.{◌≡◌, [], length};
+ghost use Rattle.std.specs.Prelude.{◌≡◌, true, length, Some, IfOk};
 ghost use Rattle.book.specs.Kept.{entities, role_names};
-ghost use Rattle.heads.specs.Index.{Indexed};
-ghost use Rattle.decision.specs.Conditions.{goal_enrolled, Admission};
+ghost use Rattle.decision.specs.Answers.{refusal_in};
+ghost use Rattle.decision.specs.Conditions.{goal_enrolled, unfit};
 
 use crate::request::Request;
 use crate::verdict::DecideRefusal;
 use book::Register;
-use heads::admit;
+use heads::{Admitted, admit};
 use rules::Membership;
 use scale::Scale;
 use source::Source;
@@ -18,30 +18,28 @@ const MOST_CREDENTIALS: usize = 512;
 fn is_enrolled(register: &Register, goal: Membership) -> bool
     ensures { result ≡ goal_enrolled (length (entities register.now)) (length (role_names register.now)) goal }
 {
-    register.has_role(goal.role) && register.has_entity(goal.member)
+    register.has_role(goal.role) && register.has(goal.member)
 }
 
-// What the threshold asks for and how many heads there are, which are then numbered in the index.
-pub(crate) fn fit<R: Source, S: Scale>(
+// What the threshold asks for, and what settling stands on.
+pub(crate) fn fit<'a, R: Source, S: Scale>(
     register: &Register,
-    source: &R,
+    source: &'a R,
     request: Request,
-    index: &mut [u16],
-) -> Result<(S, usize), DecideRefusal>
-    requires { Indexed index.old [] }
-    ensures { Admission S.Scale.meaning (length (entities register.now)) (length (role_names register.now)) request.goal request.threshold (R.Source.shows source.now) index.new result }
+) -> Result<(S, Admitted<'a, R>), DecideRefusal>
+    ensures refuses { refusal_in result ≡ unfit S.Scale.meaning (length (entities register.now)) (length (role_names register.now)) request.goal request.threshold (R.Source.shows source.now) }
+    ensures enrolled { IfOk result (λ _. goal_enrolled (length (entities register.now)) (length (role_names register.now)) request.goal ≡ true) }
+    ensures asks { IfOk result (λ p. S.Scale.meaning.threshold request.threshold ≡ Some p.0) }
+    ensures source { IfOk result (λ p. p.1.source.now ≡ source.now) }
+    ensures entities { IfOk result (λ p. p.1.entities ≡ length (entities register.now)) }
 {
     if !is_enrolled(register, request.goal) {
         return Err(DecideRefusal::GoalNotEnrolled);
     }
-    let Some(asked) = S::read_threshold(request.threshold) else {
-        return Err(DecideRefusal::UnreadableThreshold);
-    };
+    let asked = S::read_threshold(request.threshold).ok_or(DecideRefusal::UnreadableThreshold)?;
     if source.count() > MOST_CREDENTIALS {
         return Err(DecideRefusal::TooManyCredentials);
     }
-    match admit::<R, S>(register, source, index) {
-        Ok(heads) => Ok((asked, heads)),
-        Err(origin) => Err(DecideRefusal::BadCredential(origin)),
-    }
+    let admitted = admit::<R, S>(register, source)?;
+    Ok((asked, admitted))
 }

@@ -11,7 +11,6 @@ use crate::request::Request;
 use crate::ruling::rule;
 use crate::verdict::{DecideRefusal, Verdict, Work};
 use book::{Book, Register};
-use heads::{HEAD_SLOTS, NO_HEAD};
 use rules::{Reason, Step};
 use scale::Scale;
 use source::{Join, Source};
@@ -23,6 +22,7 @@ fn is_short(former: usize, latest: usize, reasons: usize, steps: usize, need: us
     former < need || latest < need || reasons < need || steps < need
 }
 
+// The lists are handed on one by one: of a struct that lends them, its maker knows nothing afterwards.
 fn decide_in<R: Source, S: Scale>(
     register: &Register,
     source: &R,
@@ -34,23 +34,18 @@ fn decide_in<R: Source, S: Scale>(
 ) -> Result<Verdict<S>, DecideRefusal>
     ensures { Decided S.Scale.meaning (length (entities register.now)) (length (role_names register.now)) (R.Source.shows source.now) request.goal request.threshold (lists former.old latest.old reasons.old steps.old) (lists former.new latest.new reasons.new steps.new) result }
 {
-    let mut index = [NO_HEAD; HEAD_SLOTS];
-    let (asked, heads) = fit::<R, S>(register, source, request, &mut index)?;
-    let entities = register.entity_count();
-    let need = heads * entities;
+    let (asked, admitted) = fit::<R, S>(register, source, request)?;
+    let need = admitted.cells();
     if is_short(former.len(), latest.len(), reasons.len(), steps.len(), need) {
         return Err(DecideRefusal::ShortList { need });
     }
     Ok(rule(
-        source,
-        &index,
-        heads,
-        entities,
+        &admitted,
         request.goal,
         asked,
-        &mut former[0..need],
-        &mut latest[0..need],
-        &mut reasons[0..need],
+        &mut former[..need],
+        &mut latest[..need],
+        &mut reasons[..need],
         steps,
     ))
 }

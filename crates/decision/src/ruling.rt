@@ -1,15 +1,13 @@
 // The verdict over credentials that are fit to be settled.
-ghost use Rattle.std.specs.Prelude.{◌≡◌, ◌*◌, ◌<◌, ◌≤◌, length};
+ghost use Rattle.std.specs.Prelude.{◌≡◌, ◌<◌, ◌≤◌, length};
 ghost use Rattle.source.specs.Shows.{stated};
-ghost use Rattle.rules.specs.Cells.{heads as heads_of};
-ghost use Rattle.heads.specs.Enrolled.{RoleIn, AllIn};
-ghost use Rattle.heads.specs.Index.{Indexed};
-ghost use Rattle.decision.specs.Conditions.{lists};
+ghost use Rattle.heads.specs.Enrolled.{RoleIn};
+ghost use Rattle.decision.specs.Conditions.{lists, many_cells};
 ghost use Rattle.decision.specs.Decided.{RuledCells};
 
 use crate::verdict::Verdict;
 use derivation::explain;
-use heads::head_of;
+use heads::Admitted;
 use rules::{Membership, Reason, Step};
 use scale::Scale;
 use settle::{settle, weight_of};
@@ -18,10 +16,7 @@ use source::Source;
 // Settles on lists that are as long as the cells, and grants where the goal's weight is at least what is
 // asked.
 pub(crate) fn rule<R: Source, S: Scale>(
-    source: &R,
-    index: &[u16],
-    heads: usize,
-    entities: usize,
+    admitted: &Admitted<'_, R>,
     goal: Membership,
     asked: S,
     former: &mut [Option<S>],
@@ -29,22 +24,17 @@ pub(crate) fn rule<R: Source, S: Scale>(
     reasons: &mut [Reason],
     steps: &mut [Step],
 ) -> Verdict<S>
-    requires few { entities ≤ 64 }
-    requires known { AllIn entities (stated (R.Source.shows source.now)) }
-    requires short { length (stated (R.Source.shows source.now)) ≤ 512 }
-    requires indexed { Indexed index.now (heads_of (stated (R.Source.shows source.now))) }
-    requires many { heads ≡ length (heads_of (stated (R.Source.shows source.now))) }
-    requires role { RoleIn entities goal.role }
-    requires member { goal.member.0 < entities }
-    requires former_long { length former.old ≡ heads * entities }
-    requires latest_long { length latest.old ≡ heads * entities }
-    requires reasons_long { length reasons.old ≡ heads * entities }
-    requires steps_room { heads * entities ≤ length steps.old }
-    ensures { RuledCells S.Scale.meaning entities (stated (R.Source.shows source.now)) goal asked steps.old (lists former.new latest.new reasons.new steps.new) result }
+    requires role { RoleIn admitted.now.entities goal.role }
+    requires member { goal.member.0 < admitted.now.entities }
+    requires former_long { length former.old ≡ many_cells admitted.now.entities (stated (R.Source.shows admitted.now.source.now)) }
+    requires latest_long { length latest.old ≡ many_cells admitted.now.entities (stated (R.Source.shows admitted.now.source.now)) }
+    requires reasons_long { length reasons.old ≡ many_cells admitted.now.entities (stated (R.Source.shows admitted.now.source.now)) }
+    requires steps_room { many_cells admitted.now.entities (stated (R.Source.shows admitted.now.source.now)) ≤ length steps.old }
+    ensures { RuledCells S.Scale.meaning admitted.now.entities (stated (R.Source.shows admitted.now.source.now)) goal asked steps.old (lists former.new latest.new reasons.new steps.new) result }
 {
-    let rounds = settle(source, index, entities, former, latest, reasons);
-    let head = head_of(index, goal.role);
-    let best = weight_of(latest, head, entities, goal.member.0 as usize);
+    let rounds = settle(admitted, former, latest, reasons);
+    let head = admitted.head_of(goal.role);
+    let best = weight_of(latest, head, admitted.entities, goal.member.0 as usize);
     let Some(weight) = best else {
         return Verdict::Denied { best: None, rounds };
     };
@@ -54,7 +44,7 @@ pub(crate) fn rule<R: Source, S: Scale>(
             rounds,
         };
     }
-    let steps = explain::<R, S>(source, index, heads, entities, reasons, goal, steps);
+    let steps = explain::<R, S>(admitted, reasons, goal, steps);
     Verdict::Granted {
         weight,
         steps,

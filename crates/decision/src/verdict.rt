@@ -1,5 +1,6 @@
 // What decide answers, and the memory that it works in.
 ghost use Rattle.std.specs.Prelude.{◌≡◌};
+ghost use Rattle.decision.specs.declared.verdict.DecideRefusal.TheVariants as refusal;
 ghost use Rattle.decision.specs.Answers.{number};
 
 use rules::{Reason, Step};
@@ -44,6 +45,14 @@ impl DecideRefusal {
             DecideRefusal::UnreadableThreshold => 12,
             DecideRefusal::ShortList { need: _ } => 13,
         }
+    }
+}
+
+impl From<Origin> for DecideRefusal {
+    ghost from_gives = { λ o r. r ≡ refusal.BadCredential o };
+
+    fn from(origin: Origin) -> DecideRefusal {
+        DecideRefusal::BadCredential(origin)
     }
 }
 
