@@ -5,7 +5,7 @@ ghost use Rattle.book.specs.declared.store.Book.{Book as AnyBook};
 ghost use Rattle.book.specs.Plain.{answer, next, enrol};
 ghost use Rattle.book.specs.Kept.{entities, role_names, plain, enrol_said, StandsAfter, name_number, names_of};
 
-use super::list::{number_of, spelling_of};
+use super::list::number_of;
 use super::names::kind_of;
 use super::number::NameNumber;
 use super::*;
@@ -62,7 +62,8 @@ impl Register {
         ensures value { option_map (λ x. x.now) result ≡ slice_get (names_of N.KIND self.now) (N.number n) }
         ensures short { IfSome result (λ s. length s.now ≤ 24) }
     {
-        spelling_of(self.names(N::KIND), n.number())
+        let name = self.names(N::KIND).get(usize::from(n.number()))?;
+        Some(name.text())
     }
 
     // Whether a name of this number is enrolled.

@@ -1,6 +1,5 @@
-// The names of one kind: put last, found by their spelling and spelled by their number.
-ghost use Rattle.std.specs.Prelude.{◌≡◌, ◌≤◌, [], length, IfSome, IfOk, slice_get};
-ghost use Rattle.std.specs.Option.{option_map};
+// The names of one kind: put last, and found by their spelling.
+ghost use Rattle.std.specs.Prelude.{◌≡◌, ◌≤◌, [], length, IfOk};
 ghost use Rattle.book.specs.Kept.{name_number};
 ghost use Rattle.book.specs.Puts.{Puts};
 
@@ -56,11 +55,4 @@ pub(super) fn number_of(names: &[Name], word: &[u8]) -> Option<u8>
         .iter()
         .position(|n| word == n.text())
         .map(|place| place as u8)
-}
-
-pub(super) fn spelling_of(names: &[Name], n: u8) -> Option<&[u8]>
-    ensures value { option_map (λ x. x.now) result ≡ slice_get names.now n }
-    ensures short { IfSome result (λ s. length s.now ≤ 24) }
-{
-    Some(names.get(usize::from(n))?.text())
 }

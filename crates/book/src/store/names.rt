@@ -37,6 +37,7 @@ pub fn is_role_name(word: &[u8]) -> bool
     is_name(word) && word[0].is_ascii_lowercase()
 }
 
+// Its three cases are those of `kind_of` in specs/Names.antt; a chain of options would hide them.
 pub(crate) fn kind_of(word: &[u8]) -> Option<Kind>
     ensures { result ≡ kind_of word.now }
 {
