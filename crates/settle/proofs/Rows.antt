@@ -11,9 +11,6 @@ use Rattle.heads.proofs.Roles.{which, numbered_first, numbered_later, one_less}
 use Rattle.settle.specs.Entries.{Entry, entry, entry_at, Held, Put, Front, Row, RowOf}
 
 module _ {X : Type 0} where
-  pub front_none : (f : ℕ → X → X) (s : ℕ → X) → Front 0 f s s
-  front_none f s = record { within = λ x h. absurd (omega arith); outside = λ j h. refl }
-
   pub front_same : (n : ℕ) (f : ℕ → X → X) (s : ℕ → X) → ((x : ℕ) → x < n → (e : X) → f x e ≡ e) → Front n f s s
   front_same n f s h = record { within = λ x l. sym (h x l (s x)); outside = λ j l. refl }
 

@@ -1,7 +1,6 @@
 -- What a credential gives its head's row, as what it gives each membership.
 use Rattle.std.proofs.Common.{◌≡◌, ℕ, suc, ◌+◌, ◌*◌, Bool, true, false, cond, ◌⊎◌, List, [], ◌∷◌, ◌++◌, length, Some, None, filter, Option, sym, refl, ap, ◌∙◌, subst, inl, inr, append_assoc, append-nil, zero-add, arith}
 use Rattle.scale.specs.Scale.{Meaning, Laws}
-use Rattle.scale.specs.Order.{none_some, some_is}
 use Rattle.rules.specs.System.{Table}
 use Rattle.rules.specs.declared.memberships.Membership.{Membership}
 use Rattle.rules.specs.Ways.{belongs, Way, ways_by, ways_of, ways_from}
@@ -34,10 +33,11 @@ module _ {S : Type 0} (m : Meaning S) (laws : Laws m) (E : ℕ) where
         mine v s = ap (λ (w : Bool). cond w (ways_by m E p c.body x) []) s
 
         by : (n : Option ℕ) → number rs c.head ≡ n → RowOf n E (λ x. offered m t (filter pass (ways_by m E p c.body x))) a b → ((c.head ≡ r) × (same_role c.head r ≡ true)) ⊎ ((c.head ≡ r → ⊥) × (same_role c.head r ≡ false)) → b (h * E + x) ≡ offered m t (filter pass (ways_of m E p c (belongs r x))) (a (h * E + x))
-        by None k row (inl s) = absurd (none_some (sym k ∙ ap (number rs) s.0 ∙ e))
+        by None k row (inl s) = let z : None ≡ Some h = sym k ∙ ap (number rs) s.0 ∙ e in cc
         by None k row (inr s) = row (h * E + x) ∙ ap (λ ys. offered m t (filter pass ys) (a (h * E + x))) (sym (mine false s.1))
         by (Some to) k row (inl s) =
-            let same : to ≡ h = some_is (sym k ∙ ap (number rs) s.0 ∙ e) in
+            let z : Some to ≡ Some h = sym k ∙ ap (number rs) s.0 ∙ e in
+            let same : to ≡ h = cc in
             subst (λ (z : ℕ). b (z * E + x) ≡ offered m t (filter pass (ways_by m E p c.body x)) (a (z * E + x))) same (row.within x l)
             ∙ ap (λ ys. offered m t (filter pass ys) (a (h * E + x))) (sym (mine true s.1))
         by (Some to) k row (inr s) =

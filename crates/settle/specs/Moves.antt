@@ -1,11 +1,14 @@
 -- What a round changed, by a flag for each head's row, and so what the next one works through.
-use Rattle.std.specs.Prelude.{◌≡◌, ℕ, ◌+◌, ◌*◌, ◌<◌, Bool, true, false, ◌||◌, List, [], ◌∷◌, Some, None, is_none, Option, slice_index_or}
+use Rattle.std.specs.Prelude.{◌≡◌, ℕ, ◌+◌, ◌*◌, ◌<◌, Bool, true, false, ◌||◌, List, [], ◌∷◌, Some, None, is_none, filter, Option, slice_index_or}
 use Rattle.std.specs.Borrow.{Bor}
 use Rattle.std.specs.Option.{option_map}
 use Rattle.credential.specs.declared.Role.{Role}
 use Rattle.scale.specs.Scale.{Meaning, AtLeast}
 use Rattle.rules.specs.declared.memberships.Membership.{Membership}
-use Rattle.rules.specs.Ways.{Way}
+use Rattle.credential.specs.declared.Record.{Record}
+use Rattle.credential.specs.declared.Body.{Body}
+use Rattle.rules.specs.Ways.{Way, ways_by}
+use Rattle.settle.specs.Entries.{Entry, offered, shown}
 use Rattle.rules.specs.Cells.{number}
 
 -- the flags, where there was a round to set them
@@ -30,6 +33,10 @@ worth_by rs changed (q ∷ (p ∷ ps)) = moved rs changed q || worth_by rs chang
 
 abbrev pub worth : {S : Type 0} → List Role → Option (List Bool) → Way S → Bool
 worth rs changed y = worth_by rs changed y.premises
+
+-- what a body gives the entry of each member of its head, by the ways that are worth offering
+abbrev pub gives : {S : Type 0} → Meaning S → List Role → ℕ → List (Option S) → Option (List Bool) → ℕ → Body Record → ℕ → Entry S → Entry S
+gives m rs E former changed place body x e = offered m (shown rs E former) (filter (worth rs changed) (ways_by m E place body x)) e
 
 -- some entry of the n from base on weighs more in vs than in ws, or none does
 abbrev pub RowChanged : {S : Type 0} → Meaning S → List (Option S) → List (Option S) → ℕ → ℕ → Bool → Type 0

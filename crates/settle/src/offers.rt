@@ -1,12 +1,11 @@
 // What a round offers to the cells.
-ghost use Rattle.std.specs.Prelude.{◌≡◌, ◌<◌, ◌≤◌, ◌||◌, length, filter, IfSome};
+ghost use Rattle.std.specs.Prelude.{◌≡◌, ◌<◌, length, IfSome};
 ghost use Rattle.source.specs.Shows.{stated};
 ghost use Rattle.scale.specs.Scale.{combined};
 ghost use Rattle.rules.specs.Cells.{heads, number};
-ghost use Rattle.rules.specs.Ways.{ways_by};
-ghost use Rattle.heads.specs.Enrolled.{BodyIn, CredentialIn, RoleIn};
-ghost use Rattle.settle.specs.Entries.{entry_at, taken, offered, weight_at, in_row, shown, Held, Put, Front, RowOf};
-ghost use Rattle.settle.specs.Moves.{flags, worth};
+ghost use Rattle.heads.specs.Enrolled.{BodyIn, CredentialIn};
+ghost use Rattle.settle.specs.Entries.{entry_at, taken, weight_at, in_row, Held, Put, Front, RowOf};
+ghost use Rattle.settle.specs.Moves.{flags, gives};
 
 use crate::round::Round;
 use credential::{Body, Credential, Entity, Record, Role, RoleName};
@@ -105,7 +104,7 @@ fn offer_link<R: Source, S: Scale>(
     requires known { BodyIn round.now.admitted.now.entities (Body.Link role name) }
     requires weights_long { length weights.old ≡ round.now.admitted.now.entities }
     requires reasons_long { length reasons.old ≡ round.now.admitted.now.entities }
-    ensures { let cs = stated (R.Source.shows round.now.admitted.now.source.now) in Front round.now.admitted.now.entities (λ x. offered S.Scale.meaning (shown (heads cs) round.now.admitted.now.entities round.now.former.now) (filter (worth (heads cs) (flags round.now.changed)) (ways_by S.Scale.meaning round.now.admitted.now.entities place (Body.Link role name) x))) (entry_at weights.old reasons.old) (entry_at weights.new reasons.new) }
+    ensures { let rs = heads (stated (R.Source.shows round.now.admitted.now.source.now)) in let n = round.now.admitted.now.entities in Front n (gives S.Scale.meaning rs n round.now.former.now (flags round.now.changed) place (Body.Link role name)) (entry_at weights.old reasons.old) (entry_at weights.new reasons.new) }
 {
     let head = round.head_of(role);
     let Some(middles) = round.row(head) else {
@@ -135,7 +134,7 @@ fn offer_body<R: Source, S: Scale>(
     requires known { BodyIn round.now.admitted.now.entities body }
     requires weights_long { length weights.old ≡ round.now.admitted.now.entities }
     requires reasons_long { length reasons.old ≡ round.now.admitted.now.entities }
-    ensures { let cs = stated (R.Source.shows round.now.admitted.now.source.now) in Front round.now.admitted.now.entities (λ x. offered S.Scale.meaning (shown (heads cs) round.now.admitted.now.entities round.now.former.now) (filter (worth (heads cs) (flags round.now.changed)) (ways_by S.Scale.meaning round.now.admitted.now.entities place body x))) (entry_at weights.old reasons.old) (entry_at weights.new reasons.new) }
+    ensures { let rs = heads (stated (R.Source.shows round.now.admitted.now.source.now)) in let n = round.now.admitted.now.entities in Front n (gives S.Scale.meaning rs n round.now.former.now (flags round.now.changed) place body) (entry_at weights.old reasons.old) (entry_at weights.new reasons.new) }
 {
     let reason = Reason {
         place,
@@ -183,7 +182,7 @@ pub(crate) fn offer_credential<R: Source, S: Scale>(
     requires known { CredentialIn round.now.admitted.now.entities c }
     requires latest_level { length latest.old ≡ length round.now.former.now }
     requires reasons_level { length reasons.old ≡ length round.now.former.now }
-    ensures { let cs = stated (R.Source.shows round.now.admitted.now.source.now) in RowOf (number (heads cs) c.head) round.now.admitted.now.entities (λ x. offered S.Scale.meaning (shown (heads cs) round.now.admitted.now.entities round.now.former.now) (filter (worth (heads cs) (flags round.now.changed)) (ways_by S.Scale.meaning round.now.admitted.now.entities place c.body x))) (entry_at latest.old reasons.old) (entry_at latest.new reasons.new) }
+    ensures { let rs = heads (stated (R.Source.shows round.now.admitted.now.source.now)) in let n = round.now.admitted.now.entities in RowOf (number rs c.head) n (gives S.Scale.meaning rs n round.now.former.now (flags round.now.changed) place c.body) (entry_at latest.old reasons.old) (entry_at latest.new reasons.new) }
 {
     if let Some(head) = round.head_of(c.head) {
         let start = head as usize * round.admitted.entities;

@@ -19,7 +19,7 @@ pub(crate) fn offer_all<R: Source, S: Scale>(
 )
     requires latest_level { length latest.old ≡ length round.now.former.now }
     requires reasons_level { length reasons.old ≡ length round.now.former.now }
-    ensures { let cs = stated (R.Source.shows round.now.admitted.now.source.now) in Spread (heads cs) round.now.admitted.now.entities (λ q. offered S.Scale.meaning (shown (heads cs) round.now.admitted.now.entities round.now.former.now) (filter (worth (heads cs) (flags round.now.changed)) (ways S.Scale.meaning round.now.admitted.now.entities cs q))) (entry_at latest.old reasons.old) (entry_at latest.new reasons.new) }
+    ensures { let cs = stated (R.Source.shows round.now.admitted.now.source.now) in let n = round.now.admitted.now.entities in Spread (heads cs) n (λ q. offered S.Scale.meaning (shown (heads cs) n round.now.former.now) (filter (worth (heads cs) (flags round.now.changed)) (ways S.Scale.meaning n cs q))) (entry_at latest.old reasons.old) (entry_at latest.new reasons.new) }
 {
     for (place, c) in round.admitted.source.iter().enumerate() {
         offer_credential(round, place as u16, c, latest, reasons);

@@ -1,9 +1,7 @@
 use Rattle.std.proofs.Common.{◌≡◌, ◌+◌, ◌-◌, ◌*◌, filter, arith}
 use Rattle.rules.specs.Cells.{heads, number}
-use Rattle.rules.specs.Ways.{ways_by}
 use Rattle.source.specs.Shows.{stated}
-use Rattle.settle.specs.Entries.{offered, shown}
-use Rattle.settle.specs.Moves.{flags, worth}
+use Rattle.settle.specs.Moves.{flags, gives}
 use Rattle.settle.proofs.Rows.{row_of_placed}
 use Rattle.settle.proofs.offers.offer_credential.Goals as goal
 
@@ -16,5 +14,5 @@ returns-in-Some g c =
     let k : h * E + E - h * E ≡ E = omega arith in
     row_of_placed c.args.latest.now c.offer_body.new.weights c.args.reasons.now c.offer_body.new.reasons h E (h * E + E - h * E) k
     (omega (arith, c.in-Some.ensures.held)) (omega (arith, c.in-Some.ensures.held)) (omega arith) (omega arith)
-    (λ x. offered g.S.Scale.meaning (shown rs E round.former.now) (filter (worth rs (flags round.changed)) (ways_by g.S.Scale.meaning E c.args.place c.args.c.body x)))
+    (gives g.S.Scale.meaning rs E round.former.now (flags round.changed) c.args.place c.args.c.body)
     c.offer_body.ensures (number rs c.args.c.head) c.in-Some.ensures.value
