@@ -1,24 +1,20 @@
 -- What the loops offer to a row are the ways that the credential's body gives.
-use Rattle.std.proofs.Common.{◌≡◌, ℕ, zero, suc, ◌+◌, ◌<◌, ◌≤◌, Bool, true, false, cond, ◌||◌, eqb, List, [], ◌∷◌, map, is_none, Some, None, filter, Option, sym, refl, ap, ◌∙◌, subst, ap₂, ⊎_elim, add-one, arith}
-use Rattle.std.specs.List.{AllByRecursion}
-use Rattle.std.proofs.lemmas.Bool.{eq-eqb, lt-ltb, ne_eqb, cases_eq}
+use Rattle.std.proofs.Common.{◌≡◌, ℕ, zero, suc, ◌+◌, ◌<◌, ◌≤◌, Bool, true, false, cond, ◌||◌, List, [], ◌∷◌, map, Some, None, filter, Option, sym, refl, ap, ◌∙◌, subst, ap₂, add-one, arith}
+use Rattle.std.proofs.lemmas.Bool.{lt-ltb}
 use Rattle.std.specs.Borrow.{Bor}
 use Rattle.scale.specs.Scale.{Meaning, Laws, combined, full_weight, AtLeast}
 use Rattle.scale.specs.Order.{combine_full_right}
-use Rattle.rules.specs.Ways.{belongs, role_of, Way, way, below, ways_by}
+use Rattle.rules.specs.Ways.{belongs, role_of, Way, way, below}
 use Rattle.rules.specs.Tables.{because, weight_by}
 use Rattle.rules.specs.Cells.{number}
 use Rattle.rules.proofs.Order.{at_least_none}
-use Rattle.settle.specs.Entries.{Entry, taken, taken_if, offered, weight_at, in_row, IsRow, shown, Put, Front}
+use Rattle.settle.specs.Entries.{Entry, taken, taken_if, offered, weight_at, in_row, IsRow, shown, Front}
 use Rattle.settle.specs.Moves.{flag_of, worth, gives}
 use Rattle.settle.proofs.Bridge.{offered_more, taken_below}
 use Rattle.settle.proofs.Rows.{front_same, front_then, front_as}
 use Rattle.credential.specs.declared.Role.{Role}
 use Rattle.credential.specs.declared.RoleName.{RoleName}
-use Rattle.credential.specs.declared.Entity.{Entity}
-use Rattle.credential.specs.declared.Record.{Record}
-use Rattle.credential.specs.declared.Body.{Body}
-use Rattle.credential.specs.declared.Body.TheVariants.{Member, Delegation, Link, Intersection}
+use Rattle.credential.specs.declared.Body.TheVariants.{Delegation, Link, Intersection}
 
 module _ {S : Type 0} (m : Meaning S) (rs : List Role) (E : ℕ) (former : List (Option S)) (changed : Option (List Bool)) (place : ℕ) where
   module _ (b : Role) (t : RoleName) where
@@ -42,14 +38,14 @@ module _ {S : Type 0} (m : Meaning S) (laws : Laws m) (rs : List Role) (E : ℕ)
     pub by_delegation : (b : Role) (v : S) (w : ℕ → Option S) (s a : ℕ → Entry S) → v ≡ m.full → flag_of changed (number rs b) ≡ true → ((x : ℕ) → x < E → w x ≡ shown rs E former (belongs b x)) → Front E (λ x. taken m (combined m (Some v) (w x)) (because place 0)) s a → Front E (gives m rs E former changed place (Delegation b)) s a
     by_delegation b v w s a full moved reads q =
         front_as E _ _ s a (λ x h e.
-            ap (λ (u : Option S). taken m u (because place 0) e) (ap₂ (λ (u : S). combined m (Some u)) full (reads x h) ∙ laws.combine_comm (full_weight m) (shown rs E former (belongs b x)))
-            ∙ ap (λ (u : Bool). offered m (shown rs E former) (cond u (way place 0 (full_weight m) (belongs b x ∷ []) ∷ []) []) e) (sym moved)) q
+        ap (λ (u : Option S). taken m u (because place 0) e) (ap₂ (λ (u : S). combined m (Some u)) full (reads x h) ∙ laws.combine_comm (full_weight m) (shown rs E former (belongs b x)))
+        ∙ ap (λ (u : Bool). offered m (shown rs E former) (cond u (way place 0 (full_weight m) (belongs b x ∷ []) ∷ []) []) e) (sym moved)) q
 
     pub by_intersection : (b d : Role) (v w : ℕ → Option S) (s a : ℕ → Entry S) → (flag_of changed (number rs b) || flag_of changed (number rs d)) ≡ true → ((x : ℕ) → x < E → v x ≡ shown rs E former (belongs b x)) → ((x : ℕ) → x < E → w x ≡ shown rs E former (belongs d x)) → Front E (λ x. taken m (combined m (v x) (w x)) (because place 0)) s a → Front E (gives m rs E former changed place (Intersection b d)) s a
     by_intersection b d v w s a moved reads reads2 q =
         front_as E _ _ s a (λ x h e.
-            ap (λ (u : Option S). taken m u (because place 0) e) (ap₂ (combined m) (reads x h) (reads2 x h ∙ sym (combine_full_right m laws (shown rs E former (belongs d x)))))
-            ∙ ap (λ (u : Bool). offered m (shown rs E former) (cond u (way place 0 (full_weight m) (belongs b x ∷ belongs d x ∷ []) ∷ []) []) e) (sym moved)) q
+        ap (λ (u : Option S). taken m u (because place 0) e) (ap₂ (combined m) (reads x h) (reads2 x h ∙ sym (combine_full_right m laws (shown rs E former (belongs d x)))))
+        ∙ ap (λ (u : Bool). offered m (shown rs E former) (cond u (way place 0 (full_weight m) (belongs b x ∷ belongs d x ∷ []) ∷ []) []) e) (sym moved)) q
 
     module _ (b : Role) (t : RoleName) where
       link_more : (v : Bool) (n : ℕ) (s a c : ℕ → Entry S) → v ≡ (flag_of changed (number rs b) || flag_of changed (number rs (role_of n t))) → Through m rs E former changed place b t n s a → Front E (λ x. taken_if m v (combined m (shown rs E former (belongs b n)) (shown rs E former (belongs (role_of n t) x))) (because place n)) a c → Through m rs E former changed place b t (n + 1) s c

@@ -32,7 +32,8 @@ pub fn weight_of<S: Scale>(
 }
 
 // A strictly better offer takes the cell, with its reason.
-// The two lists are parameters: of a struct that lends both, its maker knows nothing afterwards.
+// The lists are two parameters, here and below: who makes a struct that lends parts of both learns nothing of
+// them, and with one that lends them whole each function would promise that it still lends the same.
 fn put_offer<S: Scale>(
     weights: &mut [Option<S>],
     reasons: &mut [Reason],

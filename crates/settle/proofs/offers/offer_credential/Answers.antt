@@ -1,4 +1,4 @@
-use Rattle.std.proofs.Common.{◌≡◌, ◌+◌, ◌-◌, ◌*◌, filter, arith}
+use Rattle.std.proofs.Common.{◌≡◌, ◌+◌, ◌-◌, ◌*◌, arith}
 use Rattle.rules.specs.Cells.{heads, number}
 use Rattle.source.specs.Shows.{stated}
 use Rattle.settle.specs.Moves.{flags, gives}
