@@ -8,9 +8,9 @@ use Rattle.rules.specs.Ways.{belongs, role_of, Way, way, below}
 use Rattle.rules.specs.Tables.{because, weight_by}
 use Rattle.rules.specs.Cells.{number}
 use Rattle.rules.proofs.Order.{at_least_none}
-use Rattle.settle.specs.Entries.{Entry, taken, taken_if, offered, weight_at, in_row, IsRow, shown, Front}
+use Rattle.settle.specs.Entries.{Entry, taken, offered, weight_at, in_row, IsRow, shown, Front}
 use Rattle.settle.specs.Moves.{flag_of, worth, gives}
-use Rattle.settle.proofs.Bridge.{offered_more, taken_below}
+use Rattle.settle.proofs.Bridge.{taken_if, offered_more, taken_below}
 use Rattle.settle.proofs.Rows.{front_same, front_then, front_as}
 use Rattle.credential.specs.declared.Role.{Role}
 use Rattle.credential.specs.declared.RoleName.{RoleName}

@@ -12,7 +12,7 @@ use Rattle.rules.specs.declared.memberships.Membership.{Membership}
 use Rattle.rules.specs.Ways.{Way, ways, below}
 use Rattle.scale.specs.Order.{weight_same, le_better}
 use Rattle.rules.specs.Tables.{because, candidate, weight_by, first_with, system, table, reason}
-use Rattle.settle.specs.Entries.{Entry, entry, taken, taken_if, offered}
+use Rattle.settle.specs.Entries.{Entry, entry, taken, offered}
 use Rattle.rules.proofs.Order.{at_least_none, at_least_trans, at_least_antisym}
 use Rattle.rules.proofs.Rounds.{after_grows}
 use Rattle.credential.specs.Same.{Credential}
@@ -48,6 +48,11 @@ module _ {S : Type 0} (m : Meaning S) (laws : Laws m) (chooses : Chooses m) (u w
           let above : better_of m all u ≡ all = le_better m laws u (better_of m w b) in
           let never : w ≡ all → ⊥ = λ e. k (sym (ap (better_of m u) e ∙ laws.better_comm u all ∙ above)) in
           if_neg (weight_same m all once) k _ _ ∙ sym (if_neg (weight_same m w all) never _ _) ∙ sym (if_neg (weight_same m all u) n _ _)
+
+-- an offer that is left out where a test fails
+abbrev pub taken_if : {S : Type 0} → Meaning S → Bool → Option S → Reason → Entry S → Entry S
+taken_if m true w r e = taken m w r e
+taken_if m false w r e = e
 
 module _ {S : Type 0} (m : Meaning S) (laws : Laws m) (t : Table Membership S) where
   abbrev top : List (Way S) → Option S

@@ -1,5 +1,5 @@
 -- The entries of the lists that a round works on: for the inner functions of a round.
-use Rattle.std.specs.Prelude.{◌≡◌, ℕ, zero, suc, ◌+◌, ◌*◌, ◌<◌, ◌≤◌, Bool, true, false, cond, List, [], ◌∷◌, length, Some, None, Option, ◌≢◌, IfSome, nat_lt, slice_index_or}
+use Rattle.std.specs.Prelude.{◌≡◌, ℕ, ◌+◌, ◌*◌, ◌<◌, ◌≤◌, cond, List, [], ◌∷◌, length, Some, None, Option, ◌≢◌, IfSome, nat_lt, slice_index_or}
 use Rattle.std.specs.Borrow.{Bor}
 use Rattle.std.proofs.Math.Logic.{ite}
 use Rattle.credential.specs.declared.Role.{Role}
@@ -31,16 +31,6 @@ module _ {S : Type 0} (m : Meaning S) where
   abbrev pub offered : Table Membership S → List (Way S) → Entry S → Entry S
   offered t [] e = e
   offered t (y ∷ ys) e = offered t ys (taken (weight_by m t y) (because y.place y.middle) e)
-
-  -- an offer that is left out where a test fails
-  abbrev pub taken_if : Bool → Option S → Reason → Entry S → Entry S
-  taken_if true w r e = taken w r e
-  taken_if false w r e = e
-
-  -- the offers of n middles in turn, of those that pass a test
-  abbrev pub through : (ℕ → Bool) → (ℕ → Option S) → ℕ → ℕ → Entry S → Entry S
-  through p f place zero e = e
-  through p f place (suc n) e = taken_if (p n) (f n) (because place n) (through p f place n e)
 
 -- what a list has for a head's number and a member
 abbrev pub weight_at : {S : Type 0} → List (Option S) → ℕ → Option ℕ → ℕ → Option S
