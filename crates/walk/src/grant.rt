@@ -31,7 +31,7 @@ impl Order {
         }
     }
 
-    // Writes the steps of the cells.
+    // Writes the steps of the cells, each by its place: after a zip over `iter_mut` no element is known.
     fn write_steps<G: Reasons>(&self, reasons: &G, steps: &mut [Step])
         requires inside { All (λ c. c < G.Reasons.cells reasons.now) self.now.cells.items }
         requires room { length self.now.cells.items ≤ length steps.old }
