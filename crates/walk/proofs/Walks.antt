@@ -220,8 +220,9 @@ module _ {leads : ℕ → CellStep} {n goal : ℕ} {numbers : List (Option ℕ)}
   pub room_for : {p : ℕ} → found ≡ Some p → length stack < 32768
   room_for {p} e = let after = pushed e in omega (arith, after.room, w.small, length_push stack p)
 
-  pub emitted : found ≡ None → Walking leads n goal (set numbers top (Some (length order))) (take (length stack - 1) stack) (order ++ top ∷ [])
-  emitted e = emit leads n goal (take (length stack - 1) stack) top split_walk (open_none numbers (leads top) (found_is ∙ e))
+  pub emitted : found ≡ None → {numbers' : List (Option ℕ)} {stack' order' : List ℕ} {k : ℕ} → numbers' ≡ set numbers top (Some k) → k ≡ length order → order' ≡ order ++ top ∷ [] → stack' ≡ take (length stack - 1) stack → Walking leads n goal numbers' stack' order'
+  emitted e is_numbers is_k is_order is_stack =
+      rw (is_numbers, is_k, is_order, is_stack) (emit leads n goal (take (length stack - 1) stack) top split_walk (open_none numbers (leads top) (found_is ∙ e)))
 
 pub finish : {leads : ℕ → CellStep} {n goal : ℕ} {numbers : List (Option ℕ)} {stack order : List ℕ} → Walking leads n goal numbers stack order → length stack ≤ 0 → Ordered leads n goal numbers order
 finish {leads} {n} {goal} {numbers} {stack} {order} w done =

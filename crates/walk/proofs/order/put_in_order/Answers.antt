@@ -1,4 +1,4 @@
-use Rattle.std.proofs.Common.{ap, length, Option, None, ℕ, arith}
+use Rattle.std.proofs.Common.{refl, ap, length, Option, None, ℕ, arith}
 use Rattle.std.proofs.lemmas.List.{length-replicate}
 use Rattle.walk.proofs.Walks.{none_yet, start, room_for, pushed, emitted, finish}
 use Rattle.walk.proofs.order.put_in_order.Goals as goal
@@ -19,8 +19,8 @@ loop-top-preserved-in-Some-open_premise g c =
 
 pub loop-top-preserved : goal.loop-top-preserved
 loop-top-preserved g c =
-    rw (c.push-in-None.ensures.items, c.pop.ensures.rest, c.len.ensures.value)
-    (emitted c.loop-top.invariant c.deref.ensures.0 c.in-Some.ensures.value c.step_of.ensures c.open_premise.ensures c.in-None.is)
+    emitted c.loop-top.invariant c.deref.ensures.0 c.in-Some.ensures.value c.step_of.ensures c.open_premise.ensures c.in-None.is
+    refl c.len.ensures.value c.push-in-None.ensures.items c.pop.ensures.rest
 
 pub returns : goal.returns
 returns g c = finish c.loop-top.invariant (omega (arith, ap length c.deref.ensures.0, c.in_default.ensures.item.3))
