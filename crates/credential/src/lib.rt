@@ -19,7 +19,8 @@ pub struct Role {
     pub name: RoleName,
 }
 
-// A weight record: what a membership carries, and what a threshold is stated in.
+// A weight record: what a membership carries, and what a threshold is stated in. The project's formats
+// write -1, and any number may be stated: what it means, and which are unreadable, is each scale's to say.
 #[derive(Clone, Copy, PartialEq, Eq, Debug)]
 pub struct Record {
     // In bytes. -1 in a credential: no ceiling is stated. -1 in a threshold: the size is unknown.

@@ -2,6 +2,7 @@
 use Rattle.std.proofs.Common.{◌≡◌, ℕ, zero, suc, ◌<◌, ◌⊎◌, List, [], ◌∷◌, map, None, Option, sym, refl, ◌∙◌, subst, inl, inr, arith}
 use mathlib.Core.Logic.{if_pos, if_neg}
 use mathlib.Core.List.{Memᴰ}
+use mathlib.Core.List.Memᴰ
 use Rattle.credential.specs.Same.{Credential}
 use Rattle.scale.specs.Scale.{Meaning, Laws, Chooses, better_of, AtLeast}
 use Rattle.scale.specs.Order.{weight_same}
@@ -11,8 +12,8 @@ use Rattle.rules.specs.Ways.{Way, ways}
 use Rattle.rules.specs.Tables.{because, no_reason, candidate, weight_by, first_with, system, table, Settled, reason}
 use Rattle.rules.specs.Reasons.{Earned, Leads, to_premise, onward}
 use Rattle.rules.specs.Theorems.{NeverLeadsBack, ReasonsAreEarned, ReasonsWeigh}
-use Rattle.rules.proofs.Order.{at_least_trans, at_least_antisym, at_least_none, best_picks}
-use Rattle.rules.proofs.Rounds.{mem_map, after_grows}
+use Rattle.rules.proofs.Order.{at_least_trans, at_least_antisym, best_picks}
+use Rattle.rules.proofs.Rounds.{after_grows}
 use Rattle.rules.proofs.Reasons as theory
 use Rattle.rules.proofs.Derivations.{earned_holds}
 
@@ -22,7 +23,7 @@ module _ {S : Type 0} (M : Meaning S) (laws : Laws M) where
     abbrev pub as_earned : (q : Membership) (w : Way S) → Earned M E cs n q w → theory.Earned M laws (system M E cs) n q
     as_earned q w e = record {
       way = candidate M w;
-      listed = mem_map (candidate M) (ways M E cs q) e.listed;
+      listed = Memᴰ.map (candidate M) e.listed;
       before = e.before;
       within = e.within;
       gave = e.gave;
@@ -33,9 +34,6 @@ module _ {S : Type 0} (M : Meaning S) (laws : Laws M) where
       above : (q p : Membership) → Leads M E cs n why q p → AtLeast M (table M E cs n p) (table M E cs n q)
       above q p (to_premise h m) = theory.premise_above M laws (system M E cs) n q (as_earned q (why q) (earned q h)) p m
       above q p (onward {r = r} f g) = at_least_trans M laws (table M E cs n p) (table M E cs n r) (table M E cs n q) (above r p g) (above q r f)
-
-      settled_on : (q p : Membership) → Settled M E cs n q → AtLeast M (table M E cs n p) (table M E cs n q) → Settled M E cs n p
-      settled_on q p h up e = h (at_least_antisym M laws _ _ (at_least_none M laws _) (subst (λ w. AtLeast M w (table M E cs n q)) e up))
 
       starts_settled : (q p : Membership) → Leads M E cs n why q p → Settled M E cs n q
       starts_settled q p (to_premise h m) = h

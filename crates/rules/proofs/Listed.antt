@@ -1,6 +1,7 @@
 -- Which credential a way comes from, and that each credential's ways are listed.
 use Rattle.std.proofs.Common.{◌≡◌, ℕ, zero, suc, ◌+◌, ◌<◌, ◌≤◌, Bool, true, false, cond, eqb, ◌⊎◌, List, [], ◌∷◌, ◌++◌, map, Some, sym, refl, ap, ◌∙◌, subst, inl, inr, arith}
 use mathlib.Core.List.{Memᴰ}
+use mathlib.Core.List.Memᴰ
 use native.Mathlib.Decide.{dec_le}
 use Rattle.std.specs.List.{slice_get}
 use Rattle.std.proofs.lemmas.Bool.{and_parts, and_from, eqb-true, eq-eqb, cond-true}
@@ -25,35 +26,13 @@ role_is a b e =
 pub role_self : (a : Role) → same_role a a ≡ true
 role_self a = and_from _ _ (eq-eqb a.entity.0 _ refl) (eq-eqb a.name.0 _ refl)
 
-mem_either : {X : Type 0} {x : X} (xs ys : List X) → Memᴰ x (xs ++ ys) → Memᴰ x xs ⊎ Memᴰ x ys
-mem_either [] ys m = inr m
-mem_either (y ∷ xs) ys (Memᴰ.head e) = inl (Memᴰ.head e)
-mem_either {x = x} (y ∷ xs) ys (Memᴰ.tail m) = by (mem_either xs ys m)
-  where
-    by : Memᴰ x xs ⊎ Memᴰ x ys → Memᴰ x (y ∷ xs) ⊎ Memᴰ x ys
-    by (inl k) = inl (Memᴰ.tail k)
-    by (inr k) = inr k
-
-mem_left : {X : Type 0} {x : X} (xs ys : List X) → Memᴰ x xs → Memᴰ x (xs ++ ys)
-mem_left [] ys h = elim h [ ]
-mem_left (z ∷ xs) ys (Memᴰ.head e) = Memᴰ.head e
-mem_left (z ∷ xs) ys (Memᴰ.tail h) = Memᴰ.tail (mem_left xs ys h)
-
-mem_right : {X : Type 0} {x : X} (xs ys : List X) → Memᴰ x ys → Memᴰ x (xs ++ ys)
-mem_right [] ys h = h
-mem_right (z ∷ xs) ys h = Memᴰ.tail (mem_right xs ys h)
-
 pub mem_below : (n x : ℕ) → x < n → Memᴰ x (below n)
 mem_below zero x h = absurd (omega arith)
 mem_below (suc n) x h = by (λ l. mem_below n x l) (dec_le (suc x) n)
   where
     by : (x < n → Memᴰ x (below n)) → Dec (suc x ≤ n) → Memᴰ x (below n ++ (n ∷ []))
-    by rest (yes l) = mem_left (below n) (n ∷ []) (rest l)
-    by rest (no l) = mem_right (below n) (n ∷ []) (Memᴰ.head (omega arith))
-
-only : {X : Type 0} {x y : X} → Memᴰ x (y ∷ []) → x ≡ y
-only (Memᴰ.head e) = e
-only (Memᴰ.tail m) = elim m [ ]
+    by rest (yes l) = Memᴰ.append_left (n ∷ []) (rest l)
+    by rest (no l) = Memᴰ.append_right (below n) (Memᴰ.head (omega arith))
 
 module _ {S : Type 0} (M : Meaning S) (E : ℕ) where
   -- what a way of the body is, whatever its place
@@ -72,13 +51,13 @@ module _ {S : Type 0} (M : Meaning S) (E : ℕ) where
   by_name p (Member y r) x {w} h = by (eqb y.0 x) refl h
     where
       by : (v : Bool) → eqb y.0 x ≡ v → Memᴰ w (cond v (way p 0 (M.credential r) [] ∷ []) []) → (w.place ≡ p) × Named (Member y r) x w
-      by true e h = subst (λ z. (z.place ≡ p) × Named (Member y r) x z) (sym (only h)) (refl, (eqb-true _ _ e, refl, refl, refl))
+      by true e h = subst (λ z. (z.place ≡ p) × Named (Member y r) x z) (sym (Memᴰ.eq_of_singleton h)) (refl, (eqb-true _ _ e, refl, refl, refl))
       by false e h = elim h [ ]
-  by_name p (Delegation b) x h = subst (λ z. (z.place ≡ p) × Named (Delegation b) x z) (sym (only h)) (refl, (refl, refl, refl))
+  by_name p (Delegation b) x h = subst (λ z. (z.place ≡ p) × Named (Delegation b) x z) (sym (Memᴰ.eq_of_singleton h)) (refl, (refl, refl, refl))
   by_name p (Link b t) x h =
       let r = by_middles p b (λ k. role_of k t) x (below E) h in
       subst (λ z. (z.place ≡ p) × Named (Link b t) x z) (sym r.1) (refl, (refl, refl))
-  by_name p (Intersection b c) x h = subst (λ z. (z.place ≡ p) × Named (Intersection b c) x z) (sym (only h)) (refl, (refl, refl, refl))
+  by_name p (Intersection b c) x h = subst (λ z. (z.place ≡ p) × Named (Intersection b c) x z) (sym (Memᴰ.eq_of_singleton h)) (refl, (refl, refl, refl))
 
   -- the credential that a listed way comes from
   pub record From (place : ℕ) (cs : List Credential) (q : Membership) (w : Way S) : Type 0 where
@@ -91,7 +70,7 @@ module _ {S : Type 0} (M : Meaning S) (E : ℕ) where
 
   pub comes_from : (p : ℕ) (cs : List Credential) (q : Membership) {w : Way S} → Memᴰ w (ways_from M E p cs q) → From p cs q w
   comes_from p [] q h = elim h [ ]
-  comes_from p (c ∷ cs) q {w} h = by (mem_either (ways_of M E p c q) (ways_from M E (suc p) cs q) h) (comes_from (suc p) cs q)
+  comes_from p (c ∷ cs) q {w} h = by (Memᴰ.append_cases (ways_of M E p c q) h) (comes_from (suc p) cs q)
     where
       here : (v : Bool) → same_role c.head q.role ≡ v → Memᴰ w (cond v (ways_by M E p c.body q.member.0) []) → From p (c ∷ cs) q w
       here false e k = elim k [ ]
@@ -112,9 +91,9 @@ module _ {S : Type 0} (M : Meaning S) (E : ℕ) where
       let same : d ≡ c = some_is e in
       let q = belongs c.head x in
       let here : Memᴰ w (ways_of M E p c q) = subst (Memᴰ w) (sym (cond-true _ _ _ (role_self c.head))) (subst (λ k. Memᴰ w (ways_by M E k c.body x)) (omega arith) h) in
-      mem_left (ways_of M E p d q) (ways_from M E (suc p) cs q) (subst (λ k. Memᴰ w (ways_of M E p k q)) (sym same) here)
+      Memᴰ.append_left (ways_from M E (suc p) cs q) (subst (λ k. Memᴰ w (ways_of M E p k q)) (sym same) here)
   listed_from (d ∷ cs) p (suc i) c x {w} e h =
-      mem_right (ways_of M E p d (belongs c.head x)) _ (listed_from cs (suc p) i c x e (subst (λ k. Memᴰ w (ways_by M E k c.body x)) (omega arith) h))
+      Memᴰ.append_right (ways_of M E p d (belongs c.head x)) (listed_from cs (suc p) i c x e (subst (λ k. Memᴰ w (ways_by M E k c.body x)) (omega arith) h))
 
   pub listed : (cs : List Credential) (i : ℕ) (c : Credential) (x : ℕ) {w : Way S} → slice_get cs i ≡ Some c → Memᴰ w (ways_by M E i c.body x) → Memᴰ w (ways M E cs (belongs c.head x))
   listed cs i c x {w} e h = listed_from cs 0 i c x e (subst (λ k. Memᴰ w (ways_by M E k c.body x)) (omega arith) h)

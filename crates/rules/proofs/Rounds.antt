@@ -1,19 +1,17 @@
 use Rattle.std.proofs.Common.{◌≡◌, ℕ, zero, suc, ◌≤◌, List, [], ◌∷◌, map, length, None, Option, sym, refl, ap, ◌∙◌, subst, zero-le, arith}
 use mathlib.Core.List.{Memᴰ}
+use mathlib.Core.List.Memᴰ
 use native.Mathlib.Decide.{le_ind}
 use Rattle.scale.specs.Scale.{Meaning, Laws, AtLeast}
 use Rattle.rules.specs.System.{System, Table, product, weighs, round, after, Closed}
 use Rattle.rules.proofs.Order.{at_least_refl, at_least_trans, at_least_none, combine_mono_both, combine_below, combine_below_right, best_upper, best_least}
 
+-- for the crates above that cite them under these names
 pub mem_map : {A B : Type 0} (f : A → B) {a : A} (xs : List A) → Memᴰ a xs → Memᴰ (f a) (map f xs)
-mem_map f [] m = elim m [ ]
-mem_map f (x ∷ xs) (Memᴰ.head e) = Memᴰ.head (ap f e)
-mem_map f (x ∷ xs) (Memᴰ.tail m) = Memᴰ.tail (mem_map f xs m)
+mem_map f xs m = Memᴰ.map f m
 
 pub mem_of_map : {A B : Type 0} (f : A → B) {b : B} (xs : List A) → Memᴰ b (map f xs) → (a : A) × Memᴰ a xs × (b ≡ f a)
-mem_of_map f [] m = elim m [ ]
-mem_of_map f (x ∷ xs) (Memᴰ.head e) = (x, Memᴰ.head refl, e)
-mem_of_map f (x ∷ xs) (Memᴰ.tail m) = let r = mem_of_map f xs m in (r.0, Memᴰ.tail r.1, r.2)
+mem_of_map f xs m = let r = Memᴰ.of_map f xs m in (r.0, r.1, sym r.2)
 
 pub data Distinct {C : Type 0} : List C → Type 0 where
   nothing : Distinct []
@@ -29,9 +27,9 @@ module _ {S C : Type 0} (M : Meaning S) (laws : Laws M) (y : System C S) where
 
   pub round_mono : (t u : Table C S) → Above t u → Above (round M y t) (round M y u)
   round_mono t u h c =
-      best_least M laws _ _ (λ w m. let r = mem_of_map (weighs M u) (y c) m in
-      let up : AtLeast M (round M y t c) (weighs M t r.0) = best_upper M laws _ (mem_map (weighs M t) (y c) r.1) in
-      rw r.2 (at_least_trans M laws _ _ _ up (product_mono t u h r.0.weight r.0.premises)))
+      best_least M laws _ _ (λ w m. let r = Memᴰ.of_map (weighs M u) (y c) m in
+      let up : AtLeast M (round M y t c) (weighs M t r.0) = best_upper M laws _ (Memᴰ.map (weighs M t) r.1) in
+      subst (AtLeast M (round M y t c)) r.2 (at_least_trans M laws _ _ _ up (product_mono t u h r.0.weight r.0.premises)))
 
   pub after_grows : (k : ℕ) → Above (after M y (suc k)) (after M y k)
   after_grows zero c = at_least_none M laws _

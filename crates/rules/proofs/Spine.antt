@@ -1,12 +1,13 @@
 -- The bound on rounds for every scale, choosing or not: along one spine of changes no cell comes twice.
 use Rattle.std.proofs.Common.{◌≡◌, ℕ, zero, suc, ◌<◌, ◌≤◌, ◌⊎◌, List, [], ◌∷◌, map, length, None, Option, sym, refl, ap, ◌∙◌, subst, inl, inr, arith}
 use mathlib.Core.List.{Memᴰ}
+use mathlib.Core.List.Memᴰ
 use Rattle.scale.specs.Scale.{Meaning, Laws, better_of, combined, full_weight, AtLeast}
 use Rattle.scale.specs.Best.{best_of}
 use Rattle.scale.specs.Order.{weight_same}
 use Rattle.rules.specs.System.{Candidate, System, Table, product, weighs, round, after}
 use Rattle.rules.proofs.Order.{at_least_refl, at_least_trans, at_least_antisym, at_least_none, combine_mono, combine_mono_both, combine_below, better_least, best_upper}
-use Rattle.rules.proofs.Rounds.{mem_map, after_grows, later, Changed, Settled, Distinct, distinct_fit}
+use Rattle.rules.proofs.Rounds.{after_grows, later, Changed, Settled, Distinct, distinct_fit}
 use Rattle.rules.proofs.Rounds.Distinct.{nothing, one_more}
 
 module _ {S : Type 0} (M : Meaning S) (laws : Laws M) where
@@ -32,9 +33,6 @@ module _ {S C : Type 0} (M : Meaning S) (laws : Laws M) where
   narrow x new old w [] v over under = absurd (over under)
   narrow x new old w (p ∷ ps) v over under = go (reaches M laws x (combined M v (combined M (old p) (product M w (map new ps))))) (λ o u. narrow x new old w ps (combined M v (old p)) o u)
     where
-      pn : Option S
-      pn = product M w (map new ps)
-
       turn : (a : Option S) → combined M v (combined M a (product M w (map new ps))) ≡ combined M (combined M v (product M w (map new ps))) a
       turn a = ap (combined M v) (laws.combine_comm a _) ∙ regroup M laws v _ a
 
@@ -55,7 +53,7 @@ module _ {S C : Type 0} (M : Meaning S) (laws : Laws M) (y : System C S) (x : Op
       go : AtLeast M x (combined M u (round M y (after M y (suc j)) p)) ⊎ ((a : Candidate C S) × Memᴰ a (y p) × (AtLeast M x (combined M u (weighs M (after M y (suc j)) a)) → ⊥)) → (q : C) × (v : Option S) × AtLeast M u v × Over v j q
       go (inl h) = absurd (over.0 h)
       go (inr r) =
-          let before : AtLeast M x (combined M u (weighs M (after M y j) r.0)) = at_least_trans M laws _ _ _ over.1 (combine_mono M laws u _ _ (best_upper M laws _ (mem_map (weighs M (after M y j)) (y p) r.1))) in
+          let before : AtLeast M x (combined M u (weighs M (after M y j) r.0)) = at_least_trans M laws _ _ _ over.1 (combine_mono M laws u _ _ (best_upper M laws _ (Memᴰ.map (weighs M (after M y j)) r.1))) in
           let f = narrow M laws x (after M y (suc j)) (after M y j) r.0.weight r.0.premises u r.2 before in
           (f.0, f.1, f.2, (f.3, f.4))
 

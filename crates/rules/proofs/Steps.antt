@@ -1,6 +1,7 @@
 -- Derivations against tables: none weighs more than a closed one has, and each entry has one.
 use Rattle.std.proofs.Common.{◌≡◌, ℕ, zero, suc, ◌<◌, Bool, true, false, cond, ◌&&◌, eqb, ◌⊎◌, List, [], ◌∷◌, ◌++◌, map, length, Some, None, Option, sym, refl, ap, ◌∙◌, subst, ap₂, inl, inr}
 use mathlib.Core.List.{Memᴰ}
+use mathlib.Core.List.Memᴰ
 use Rattle.std.specs.List.{slice_get}
 use Rattle.std.proofs.lemmas.Bool.{and_parts, and_from, eqb-true, eq-eqb, cond-true}
 use Rattle.credential.specs.declared.Record.{Record}
@@ -12,12 +13,11 @@ use Rattle.scale.specs.Order.{none_some, some_is, combine_full_right}
 use Rattle.rules.specs.declared.memberships.Membership.{Membership}
 use Rattle.rules.specs.declared.memberships.Step.{Step}
 use Rattle.rules.specs.System.{Table, product, weighs}
-use Rattle.rules.specs.Ways.{belongs, role_of, Way, way, below, ways_by, ways}
+use Rattle.rules.specs.Ways.{belongs, role_of, Way, way, ways_by, ways}
 use Rattle.rules.specs.Tables.{candidate, weight_by, system, table, ClosedTable}
 use Rattle.rules.specs.Derivation.{same_membership, Concluded, concluded, exactly, cited, by_rule, weighed, by_credential, follow, Stands, no_step, one_more, Derivation}
 use Rattle.rules.specs.Theorems.{MemberBelow, MembersEnrolled, DerivationsBelow}
 use Rattle.rules.proofs.Order.{at_least_trans, combine_mono_both, best_upper, best_picks}
-use Rattle.rules.proofs.Rounds.{mem_map, mem_of_map}
 use Rattle.rules.proofs.Listed.{role_is, role_self, mem_below, Named, From, comes_from, listed}
 
 pub membership_is : (a b : Membership) → same_membership a b ≡ true → a ≡ b
@@ -93,7 +93,7 @@ module _ {S : Type 0} (M : Meaning S) (laws : Laws M) where
     -- an entry weighs at least what a listed way weighs
     entry_above : (c : Credential) (i x : ℕ) (y : Way S) → slice_get cs i ≡ Some c → Memᴰ y (ways_by M E i c.body x) → AtLeast M (t (belongs c.head x)) (weight_by M t y)
     entry_above c i x y e h =
-        at_least_trans M laws _ _ _ (closed (belongs c.head x)) (best_upper M laws _ (mem_map (weighs M t) (system M E cs (belongs c.head x)) (mem_map (candidate M) (ways M E cs (belongs c.head x)) (listed M E cs i c x e h))))
+        at_least_trans M laws _ _ _ (closed (belongs c.head x)) (best_upper M laws _ (Memᴰ.map (weighs M t) (Memᴰ.map (candidate M) (listed M E cs i c x e h))))
 
     -- the same of a way with two premises
     two_below : (c : Credential) (i x : ℕ) (y : Way S) (a b w : S) {p q : Membership} → slice_get cs i ≡ Some c → Memᴰ y (ways_by M E i c.body x) → candidate M y ≡ record { weight = full_weight M; premises = p ∷ q ∷ [] } → AtLeast M (t p) (Some a) → AtLeast M (t q) (Some b) → combined M (Some a) (Some b) ≡ Some w → AtLeast M (t (belongs c.head x)) (Some w)
@@ -119,7 +119,7 @@ module _ {S : Type 0} (M : Meaning S) (laws : Laws M) where
         let g = good s.first _ (cited_some ds s.first (belongs b s.middle.0) p.0 p.2) in
         let h = good s.second _ (cited_some ds s.second (belongs (role_of s.middle.0 u) s.member.0) p.1 p.3) in
         let y = way i s.middle.0 (full_weight M) (belongs b s.middle.0 ∷ belongs (role_of s.middle.0 u) s.member.0 ∷ []) in
-        let here : Memᴰ y (ways_by M E i c.body s.member.0) = subst (λ z. Memᴰ y (ways_by M E i z s.member.0)) (sym is) (mem_map (λ k. way i k (full_weight M) (belongs b k ∷ belongs (role_of k u) s.member.0 ∷ [])) (below E) (mem_below E s.middle.0 g.0)) in
+        let here : Memᴰ y (ways_by M E i c.body s.member.0) = subst (λ z. Memᴰ y (ways_by M E i z s.member.0)) (sym is) (Memᴰ.map (λ k. way i k (full_weight M) (belongs b k ∷ belongs (role_of k u) s.member.0 ∷ [])) (mem_below E s.middle.0 g.0)) in
         (h.0, two_below c i s.member.0 y _ _ w at here refl g.1 h.1 (sym (ap₂ (combined M) p.2 p.3) ∙ e))
     one_good c i s ds w at good in_range (Intersection b d) is e =
         let r = cond_some (eqb s.middle.0 0) (combined M (cited ds s.first (belongs b s.member.0)) (cited ds s.second (belongs d s.member.0))) w e in
@@ -211,9 +211,6 @@ module _ {S : Type 0} (M : Meaning S) (laws : Laws M) (chooses : Chooses M) (E :
       let r = combined_some M laws (t p) (t q) w c in
       (r.0, r.1, r.2, r.3, sym (ap₂ (combined M) r.2 r.3) ∙ c)
 
-  zero_is : eqb 0 0 ≡ true
-  zero_is = refl
-
   by_way : (n : ℕ) → Reaches n → (q : Membership) (w : S) (y : Way S) → weight_by M (table M E cs n) y ≡ Some w → From M E 0 cs q y → (ss : List Step) (ds : List (Concluded S)) → Stands M cs ss ds → Reached q w ds
   by_way n again q w y gives from ss ds st = go from.credential.body refl from.named
     where
@@ -255,9 +252,9 @@ module _ {S : Type 0} (M : Meaning S) (laws : Laws M) (chooses : Chooses M) (E :
       pick : Reaches k → (table M E cs (suc k) q ≡ None) ⊎ Memᴰ (table M E cs (suc k) q) (map (weighs M (table M E cs k)) (system M E cs q)) → Reached q w ds
       pick again (inl z) = absurd (none_some (sym z ∙ e))
       pick again (inr m) =
-          let a = mem_of_map (weighs M (table M E cs k)) (system M E cs q) m in
-          let b = mem_of_map (candidate M) (ways M E cs q) a.1 in
-          by_way k again q w b.0 (ap (weighs M (table M E cs k)) (sym b.2) ∙ sym a.2 ∙ e) (comes_from M E 0 cs q b.1) ss ds st
+          let a = Memᴰ.of_map (weighs M (table M E cs k)) (system M E cs q) m in
+          let b = Memᴰ.of_map (candidate M) (ways M E cs q) a.1 in
+          by_way k again q w b.0 (ap (weighs M (table M E cs k)) b.2 ∙ a.2 ∙ e) (comes_from M E 0 cs q b.1) ss ds st
 
   pub derivation_reaches : (n : ℕ) (q : Membership) (w : S) → table M E cs n q ≡ Some w → (steps : List Step) × Derivation M cs q w steps
   derivation_reaches n q w e =

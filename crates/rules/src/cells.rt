@@ -11,11 +11,8 @@ pub struct Cell {
 pub fn split_cell(cell: usize, entities: usize) -> Option<Cell>
     ensures { MatchOption result (entities ≡ 0) (λ c. (c.head * entities + c.member ≡ cell) × (c.member < entities)) }
 {
-    if entities == 0 {
-        return None;
-    }
     Some(Cell {
-        head: cell / entities,
-        member: cell % entities,
+        head: cell.checked_div(entities)?,
+        member: cell.checked_rem(entities)?,
     })
 }

@@ -21,6 +21,7 @@ impl<const MOST: u32> Scale for Ceiling<MOST> {
 
     ghost chooses = { ceiling_chooses MOST };
 
+    #[tactic(auto, using(crate::specs::Same::ceiling_is))]
     fn full() -> Self {
         Ceiling { bytes: MOST }
     }
@@ -34,21 +35,13 @@ impl<const MOST: u32> Scale for Ceiling<MOST> {
     }
 
     fn read_credential(stated: Record) -> Option<Self> {
-        let bytes = match stated.ceiling {
-            // No ceiling is stated, so every size is good.
-            -1 => MOST,
-            ceiling => within(ceiling, MOST)?,
-        };
-        Some(Ceiling { bytes })
+        // No ceiling is stated, so every size is good.
+        Ceiling::reading(Self::full(), stated.ceiling)
     }
 
     fn read_threshold(stated: Record) -> Option<Self> {
-        let bytes = match stated.ceiling {
-            // The size is unknown, so every ceiling will do.
-            -1 => 0,
-            ceiling => within(ceiling, MOST)?,
-        };
-        Some(Ceiling { bytes })
+        // The size is unknown, so every ceiling will do.
+        Ceiling::reading(Ceiling { bytes: 0 }, stated.ceiling)
     }
 }
 
@@ -56,4 +49,22 @@ impl<const MOST: u32> SolidScale for Ceiling<MOST> {
     ghost use Rattle.scale.specs.CeilingLaws.{ceiling_solid};
 
     ghost solid = { ceiling_solid MOST };
+}
+
+impl<const MOST: u32> Ceiling<MOST> {
+    ghost use Rattle.std.specs.Prelude.{◌≡◌};
+    ghost use Rattle.scale.specs.Ceiling.{ceiling_reading};
+
+    // The ceiling of so many bytes, -1 as a ceiling of its own; `None` for any other negative number
+    // and above the maximum.
+    fn reading(unstated: Self, stated: i32) -> Option<Self>
+        ensures { result ≡ ceiling_reading MOST unstated.entry stated }
+    {
+        match stated {
+            -1 => Some(unstated),
+            bytes => Some(Ceiling {
+                bytes: within(bytes, MOST)?,
+            }),
+        }
+    }
 }

@@ -1,4 +1,5 @@
-// A distance in points, from 0 to a maximum: how far away a membership is.
+// A distance in points, from 0 to a maximum: how far away a membership is. A type of its own beside
+// `Ceiling`, so that points and bytes are not mixed.
 ghost use Rattle.std.specs.Prelude.{◌≤◌};
 
 use crate::stated::within;
@@ -21,6 +22,7 @@ impl<const MOST: u32> Scale for Distance<MOST> {
 
     ghost chooses = { distance_chooses MOST };
 
+    #[tactic(auto, using(crate::specs::Same::distance_is))]
     fn full() -> Self {
         Distance { points: 0 }
     }

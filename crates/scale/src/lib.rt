@@ -31,6 +31,7 @@ pub trait Scale: Copy {
     fn full() -> Self
         ensures { result ≡ meaning.full };
 
+    #[tactic(auto, using(crate::proofs::Chosen::chosen))]
     fn better_of(self, other: Self) -> Self
         ensures { result ≡ meaning.better self other }
     {

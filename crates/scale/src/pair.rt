@@ -1,6 +1,7 @@
 // One weight of each of two scales, a strict one and a solid one. First parts are compared, then second
 // parts, and a weight that lacks a part is none.
-ghost use Rattle.scale.specs.Pair.{pair_meaning};
+ghost use Rattle.std.specs.Prelude.{◌≡◌};
+ghost use Rattle.scale.specs.Pair.{both, pair_meaning};
 ghost use Rattle.scale.specs.PairLaws.{pair_laws, pair_chooses};
 
 use crate::{Scale, SolidScale, StrictScale};
@@ -27,25 +28,35 @@ impl<A: StrictScale, B: SolidScale> Scale for Pair<A, B> {
     }
 
     fn combine(self, other: Self) -> Option<Self> {
-        let first = self.first.combine(other.first)?;
-        let second = self.second.combine(other.second)?;
-        Some(Pair { first, second })
+        Pair::of_both(
+            self.first.combine(other.first),
+            self.second.combine(other.second),
+        )
     }
 
+    #[tactic(auto, using(crate::proofs::Pairs::not_least))]
     fn at_least(self, other: Self) -> bool {
         self.first.at_least(other.first)
             && (!other.first.at_least(self.first) || self.second.at_least(other.second))
     }
 
     fn read_credential(stated: Record) -> Option<Self> {
-        let first = A::read_credential(stated)?;
-        let second = B::read_credential(stated)?;
-        Some(Pair { first, second })
+        Pair::of_both(A::read_credential(stated), B::read_credential(stated))
     }
 
     fn read_threshold(stated: Record) -> Option<Self> {
-        let first = A::read_threshold(stated)?;
-        let second = B::read_threshold(stated)?;
-        Some(Pair { first, second })
+        Pair::of_both(A::read_threshold(stated), B::read_threshold(stated))
+    }
+}
+
+impl<A: Copy, B: Copy> Pair<A, B> {
+    // `None` if either part is.
+    fn of_both(first: Option<A>, second: Option<B>) -> Option<Self>
+        ensures { result ≡ both first second }
+    {
+        Some(Pair {
+            first: first?,
+            second: second?,
+        })
     }
 }
