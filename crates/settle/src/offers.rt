@@ -14,7 +14,8 @@ use scale::Scale;
 use scale::weight::{combine, strictly_better};
 use source::Source;
 
-// The middle of a reason where its credential is no link.
+// The middle of a reason where its credential is no link: the number that the rules give it, since what the
+// reasons are is pinned by them.
 const NO_MIDDLE: Entity = Entity(0);
 
 // The weight that a list has for a head and a member, none for a role that is no head.

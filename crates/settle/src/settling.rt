@@ -13,13 +13,14 @@ use rules::Reason;
 use scale::Scale;
 use source::Source;
 
-// The reason of an entry that no round has made better.
+// The reason of an entry that no round has made better, as the rules have it: a number and no Option, since
+// settle leaves exactly their reasons.
 const NO_REASON: Reason = Reason {
     place: 65_535,
     middle: Entity(0),
 };
 
-// No more credentials than this are settled, and so no more heads.
+// No more credentials than this are settled, and so no more heads. Flags are fixed memory: there is no heap.
 const MOST_HEADS: usize = 512;
 
 // A loop: std's fill asks that a clone cannot fail, which no bound on a scale says.
