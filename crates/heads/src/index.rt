@@ -19,8 +19,7 @@ pub struct HeadIndex {
 }
 
 fn slot_of(role: Role) -> usize
-    requires { RoleIn 64 role }
-    ensures { (result ≡ slot role) × (result < 2048) }
+    ensures { result ≡ slot role }
 {
     role.entity.0 as usize * ROLE_NAMES + role.name.0 as usize
 }

@@ -21,3 +21,5 @@ pub shown_within : (xs : List Shown) (i : ℕ) (c : Credential) → Some c ≡ c
 shown_within [] i c e = cc
 shown_within (s ∷ xs) zero c e = omega arith
 shown_within (s ∷ xs) (suc i) c e = omega (arith, shown_within xs i c e)
+
+pub ruleset rests = (rest_past, rest_here, shown_within)

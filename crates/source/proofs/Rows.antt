@@ -66,3 +66,5 @@ layer_from_shows l n (c ∷ cs) (suc i) = layer_from_shows l (suc n) cs i ∙ ap
 
 pub layer_shows : (l : ℕ) (cs : List Credential) (i : ℕ) → slice_get (layer l cs) i ≡ option_map (shown_as l i) (slice_get cs i)
 layer_shows l cs i = layer_from_shows l 0 cs i ∙ ap (λ m. option_map (shown_as l m) (slice_get cs i)) (omega arith)
+
+pub ruleset join_shows = (join_first, join_second)

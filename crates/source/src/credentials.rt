@@ -38,6 +38,7 @@ impl<'a, R: Source> Iterator for Credentials<'a, R> {
 
     ghost remaining = { item_count (λ rest. rest) };
 
+    #[tactic(auto, using(crate::proofs::Rests::rests))]
     fn next(&mut self) -> Option<Credential> {
         let c = self.source.credential(self.place)?;
         self.place += 1;

@@ -40,6 +40,7 @@ impl<A: Source, B: Source> Source for Join<A, B> {
         (self.first.count() + self.second.count()).min(MOST)
     }
 
+    #[tactic(auto, using(crate::proofs::Rows::join_shows))]
     fn shown(&self, place: usize) -> Option<Shown> {
         if place >= MOST {
             return None;

@@ -1,4 +1,5 @@
-// The book and the slip as sources: each shows its credentials in order of place.
+// The book and the slip as sources: each shows its credentials in order of place. Each has an impl of its
+// own over one function, since an impl for all layers would overlap with the one for a reference.
 ghost use Rattle.std.specs.Prelude.{◌≡◌, ◌≤◌, length};
 ghost use Rattle.std.specs.List.{slice_get};
 ghost use Rattle.book.specs.Kept.{listed};

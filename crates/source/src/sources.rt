@@ -5,7 +5,8 @@ ghost use Rattle.source.specs.Shows.{stated, credential_at, origin_at};
 use crate::credentials::Credentials;
 use credential::Credential;
 
-// Where a credential comes from: the number of its layer, and its place there.
+// Where a credential comes from: the number of its layer, and its place there. Layers have numbers and
+// no enum, since a source of another crate may be a layer of its own.
 #[derive(Clone, Copy, PartialEq, Eq, Debug)]
 pub struct Origin {
     pub layer: u8,
