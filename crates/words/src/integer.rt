@@ -5,6 +5,7 @@ ghost use Rattle.words.specs.Integer.{integer, Exact};
 
 use std::str;
 
+#[tactic(auto, using(crate::proofs::Spelling::exact, crate::proofs::Spelling::not_plain, crate::proofs::Spelling::not_utf8))]
 pub fn read_integer(word: &[u8]) -> Option<i32>
     ensures value { result ≡ integer word.now }
     ensures exact { Exact }
@@ -16,17 +17,12 @@ pub fn read_integer(word: &[u8]) -> Option<i32>
     let Ok(text) = str::from_utf8(word) else {
         return None;
     };
-    text.parse::<i32>().ok()
+    text.parse().ok()
 }
 
 // Whether `word` begins as the spelling of a number does.
 fn is_plain(word: &[u8]) -> bool
     ensures { result ≡ plain word.now }
 {
-    match word {
-        [b'0'] => true,
-        [b'1'..=b'9', ..] => true,
-        [b'-', b'1'..=b'9', ..] => true,
-        _ => false,
-    }
+    matches!(word, [b'0'] | [b'1'..=b'9', ..] | [b'-', b'1'..=b'9', ..])
 }
