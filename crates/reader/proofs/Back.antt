@@ -1,5 +1,5 @@
 -- A statement that is read was spelled so.
-use Rattle.std.proofs.Common.{◌≡◌, ℕ, ◌+◌, Bool, true, false, cond, List, [], ◌∷◌, ◌++◌, length, ℤ, Some, None, Ok, Err, codes, Option, Result, sym, refl, ap, ◌∙◌, subst, append-nil, arith}
+use Rattle.std.proofs.Common.{◌≡◌, ℕ, ◌+◌, Bool, true, false, cond, List, [], ◌∷◌, ◌++◌, length, ℤ, Some, None, Ok, Err, codes, Option, Result, sym, refl, ap, ◌∙◌, subst, append-nil}
 use Rattle.std.specs.Fmt.{signed_decimal}
 use Rattle.words.specs.Split.{Placed, split, placed, rejoin}
 use Rattle.words.proofs.Laws.{rejoin_split}
@@ -19,22 +19,9 @@ use Rattle.reader.specs.Grammar.{Command, enrol, add, withdraw, present, Got, th
 use Rattle.reader.specs.Spelling.{dotted, role_word, body_words, statement_words, weight_words, no_words, spelled, spelled_bare}
 use Rattle.reader.specs.RoundTrip.{Fits32}
 use Rattle.reader.proofs.Forth.{RoleOk, BodyOk, Good, Nothing}
-use Rattle.reader.proofs.Texts.{token_text}
+use Rattle.reader.proofs.Chains.{err_ok, got_same, then_back, then_made}
+use Rattle.reader.proofs.Texts.{none_some, token_text}
 use Rattle.reader.proofs.Verbing.{verb_back}
-
-err_ok : {X E A : Type 0} {e : E} {x : X} → ◌≡◌ {A = Result X E} (Err e) (Ok x) → A
-err_ok e = absurd (let z : ◌≡◌ {A = ℕ} 0 1 = cc in omega arith)
-
-none_some : {X A : Type 0} {x : X} → ◌≡◌ {A = Option X} None (Some x) → A
-none_some e = absurd (let z : ◌≡◌ {A = ℕ} 0 1 = cc in omega arith)
-
--- `cc` takes constructors apart, and no tuple
-got_same : {X : Type 0} (x y : X) (ws vs : List Placed) → ◌≡◌ {A = Got X} (Ok (x, ws)) (Ok (y, vs)) → (x ≡ y) × (ws ≡ vs)
-got_same {X} x y ws vs e = let h : ◌≡◌ {A = X × List Placed} (x, ws) (y, vs) = cc in (ap (λ p. p.0) h, ap (λ p. p.1) h)
-
-then_back : {X Y : Type 0} (g : Got X) (f : X → List Placed → Got Y) (q : Y × List Placed) → then g f ≡ Ok q → (x : X) × (ws : List Placed) × (g ≡ Ok (x, ws)) × (f x ws ≡ Ok q)
-then_back (Err e) f q h = err_ok h
-then_back (Ok p) f q h = (p.0, p.1, refl, h)
 
 abbrev plain : Placed → List ℕ
 plain w = w.text
@@ -116,13 +103,12 @@ weight_back : (end : ℕ) (ws : List Placed) (w : Record) (rest : List Placed) �
 weight_back end ws w rest e =
     let a = then_back (fit (a_sign Colon) end ws) (λ _ ws. then (fit a_number end ws) (λ c ws. then (fit a_number end ws) (λ d ws. Ok (record { ceiling = c; distance = d }, ws)))) (w, rest) e in
     let b = then_back (fit a_number end a.1) (λ c ws. then (fit a_number end ws) (λ d ws. Ok (record { ceiling = c; distance = d }, ws))) (w, rest) a.3 in
-    let c = then_back (fit a_number end b.1) (λ d ws. Ok (record { ceiling = b.0; distance = d }, ws)) (w, rest) b.3 in
-    let same = got_same (record { ceiling = b.0; distance = c.0 }) w c.1 rest c.3 in
+    let c = then_made (fit a_number end b.1) (λ d. record { ceiling = b.0; distance = d }) w rest b.3 in
     let x = a_sign_back Colon end ws a.0 a.1 a.2 in
     let y = a_number_back end a.1 b.0 b.1 b.2 in
-    let z = a_number_back end b.1 c.0 c.1 c.2 in
-    subst (λ v. Took ws (weight_words v) rest × Fits32 v) same.0
-    (x ∙ ap (λ l. codes ":" ∷ l) (y.0 ∙ ap (λ l. signed_decimal b.0 ∷ l) (z.0 ∙ ap (λ l. signed_decimal c.0 ∷ texts l) same.1)), (y.1, z.1))
+    let z = a_number_back end b.1 c.0 rest c.1 in
+    subst (λ v. Took ws (weight_words v) rest × Fits32 v) c.2
+    (x ∙ ap (λ l. codes ":" ∷ l) (y.0 ∙ ap (λ l. signed_decimal b.0 ∷ l) z.0), (y.1, z.1))
 
 -- a bare body that was read: its words, a membership's without what it carries
 abbrev BodyTook : List Placed → Phrase Placed (Unit {0}) → List Placed → Type 0
@@ -134,12 +120,11 @@ second_back end b w [] q rest is ok e =
     subst (λ p. BodyTook (w ∷ []) p rest) same.0 ((λ i. sym is i ∷ texts (same.1 i)), ok)
 second_back end b w (v ∷ ws) q rest is ok e =
     let m = then_back (fit (a_sign And) end (v ∷ ws)) (λ _ ws. then (fit a_role end ws) (λ c ws. Ok (Intersection b c, ws))) (q, rest) e in
-    let r = then_back (fit a_role end m.1) (λ c ws. Ok (Intersection b c, ws)) (q, rest) m.3 in
-    let same = got_same (Intersection b r.0) q r.1 rest r.3 in
+    let r = then_made (fit a_role end m.1) (Intersection b) q rest m.3 in
     let x = a_sign_back And end (v ∷ ws) m.0 m.1 m.2 in
-    let y = a_role_back end m.1 r.0 r.1 r.2 in
-    subst (λ p. BodyTook (w ∷ v ∷ ws) p rest) same.0
-    ((λ i. sym is i ∷ (x ∙ ap (λ l. codes "&" ∷ l) (y.0 ∙ ap (λ l. role_word (role_by plain r.0) ∷ texts l) same.1)) i), (ok, y.1))
+    let y = a_role_back end m.1 r.0 rest r.1 in
+    subst (λ p. BodyTook (w ∷ v ∷ ws) p rest) r.2
+    ((λ i. sym is i ∷ (x ∙ ap (λ l. codes "&" ∷ l) y.0) i), (ok, y.1))
 
 body_back : (end : ℕ) (ws : List Placed) (q : Phrase Placed (Unit {0})) (rest : List Placed) → body_at end ws ≡ Ok (q, rest) → BodyTook ws q rest
 body_back end [] q rest e = err_ok e
@@ -162,11 +147,10 @@ body_back end (w ∷ ws) q rest e = go (token_of w) refl e
 -- the weight that follows it
 weighed_back : (end : ℕ) (all : List Placed) (b : Phrase Placed (Unit {0})) (ws : List Placed) (q : Phrase Placed Record) (rest : List Placed) → BodyTook all b ws → weighed_at end b ws ≡ Ok (q, rest) → Took all (body_words weight_words (phrase_by plain q)) rest × BodyOk Fits32 (phrase_by plain q)
 weighed_back end all (Member x u) ws q rest h e =
-    let a = then_back (weight_at end ws) (λ w ws. Ok (Member x w, ws)) (q, rest) e in
-    let same = got_same (Member x a.0) q a.1 rest a.3 in
-    let k = weight_back end ws a.0 a.1 a.2 in
-    subst (λ p. Took all (body_words weight_words (phrase_by plain p)) rest × BodyOk Fits32 (phrase_by plain p)) same.0
-    (h.0 ∙ ap (λ l. x.text ∷ l) k.0 ∙ ap (λ l. x.text ∷ (weight_words a.0 ++ texts l)) same.1, (h.1.0, k.1))
+    let a = then_made (weight_at end ws) (Member x) q rest e in
+    let k = weight_back end ws a.0 rest a.1 in
+    subst (λ p. Took all (body_words weight_words (phrase_by plain p)) rest × BodyOk Fits32 (phrase_by plain p)) a.2
+    (h.0 ∙ ap (λ l. x.text ∷ l) k.0, (h.1.0, k.1))
 weighed_back end all (Delegation b) ws q rest h e =
     let same = got_same (Delegation b) q ws rest e in
     subst (λ p. Took all (body_words weight_words (phrase_by plain p)) rest × BodyOk Fits32 (phrase_by plain p)) same.0 (h.0 ∙ ap (λ l. role_word (role_by plain b) ∷ texts l) same.1, h.1)
@@ -188,13 +172,11 @@ statement_back : (end : ℕ) (ws : List Placed) (s : Sentence Placed (Unit {0}))
 statement_back end ws s rest e =
     let a = then_back (fit a_role end ws) (λ h ws. then (fit (a_sign Arrow) end ws) (λ _ ws. then (body_at end ws) (λ b ws. Ok (record { head = h; body = b }, ws)))) (s, rest) e in
     let b = then_back (fit (a_sign Arrow) end a.1) (λ _ ws. then (body_at end ws) (λ b ws. Ok (record { head = a.0; body = b }, ws))) (s, rest) a.3 in
-    let d = then_back (body_at end b.1) (λ q ws. Ok (record { head = a.0; body = q }, ws)) (s, rest) b.3 in
-    let same = got_same (record { head = a.0; body = d.0 }) s d.1 rest d.3 in
+    let d = then_made (body_at end b.1) (λ q. record { head = a.0; body = q }) s rest b.3 in
     let x = a_role_back end ws a.0 a.1 a.2 in
     let y = a_sign_back Arrow end a.1 b.0 b.1 b.2 in
-    let z = body_back end b.1 d.0 d.1 d.2 in
-    subst (λ t. StatementTook ws t rest) same.0
-    (record { mid = b.1; front = x.0 ∙ ap (λ l. role_word (role_by plain a.0) ∷ l) y; head = x.1; body = subst (λ l. BodyTook b.1 d.0 l) same.1 z })
+    subst (λ t. StatementTook ws t rest) d.2
+    (record { mid = b.1; front = x.0 ∙ ap (λ l. role_word (role_by plain a.0) ∷ l) y; head = x.1; body = body_back end b.1 d.0 rest d.1 })
 
 -- a whole statement
 bare_back : (ws : List Placed) (s : Sentence Placed (Unit {0})) → StatementTook ws s [] → (texts ws ≡ statement_words no_words (sentence_by plain s)) × Good Nothing (sentence_by plain s)
@@ -204,12 +186,11 @@ bare_back ws s h =
 credential_back : (end : ℕ) (ws : List Placed) (s : Sentence Placed Record) → credential_at end ws ≡ Ok (s, []) → (texts ws ≡ statement_words weight_words (sentence_by plain s)) × Good Fits32 (sentence_by plain s)
 credential_back end ws s e =
     let a = then_back (statement_at end ws) (λ t ws. then (weighed_at end t.body ws) (λ b ws. Ok (record { head = t.head; body = b }, ws))) (s, []) e in
-    let b = then_back (weighed_at end a.0.body a.1) (λ b ws. Ok (record { head = a.0.head; body = b }, ws)) (s, []) a.3 in
-    let same = got_same (record { head = a.0.head; body = b.0 }) s b.1 [] b.3 in
+    let b = then_made (weighed_at end a.0.body a.1) (λ b. record { head = a.0.head; body = b }) s [] a.3 in
     let h = statement_back end ws a.0 a.1 a.2 in
-    let k = weighed_back end h.mid a.0.body a.1 b.0 b.1 h.body b.2 in
-    subst (λ t. (texts ws ≡ statement_words weight_words (sentence_by plain t)) × Good Fits32 (sentence_by plain t)) same.0
-    (h.front ∙ ap (λ l. role_word (role_by plain a.0.head) ∷ codes "<-" ∷ l) (k.0 ∙ ap (λ l. body_words weight_words (phrase_by plain b.0) ++ texts l) same.1 ∙ append-nil _), (h.head, k.1))
+    let k = weighed_back end h.mid a.0.body a.1 b.0 [] h.body b.1 in
+    subst (λ t. (texts ws ≡ statement_words weight_words (sentence_by plain t)) × Good Fits32 (sentence_by plain t)) b.2
+    (h.front ∙ ap (λ l. role_word (role_by plain a.0.head) ∷ codes "<-" ∷ l) (k.0 ∙ append-nil _), (h.head, k.1))
 
 -- what is known of the words of a command
 abbrev CommandTook : List Placed → Command → Type 0
@@ -224,24 +205,19 @@ command_back end (w ∷ ws) c e = go (verb_of w.text) refl e
   where
     go : (o : Option Verb) → verb_of w.text ≡ o → command_by end w.byte o ws ≡ Ok (c, []) → CommandTook (w ∷ ws) c
     go None f e = err_ok e
-    go (Some verb.Enrol) f e =
-        let a = then_back (fit a_word end ws) (λ w ws. Ok (enrol w, ws)) (c, []) e in
-        subst (CommandTook (w ∷ ws)) (got_same (enrol a.0) c a.1 [] a.3).0 tt
+    go (Some verb.Enrol) f e = subst (CommandTook (w ∷ ws)) (then_made (fit a_word end ws) enrol c [] e).2 tt
     go (Some verb.Add) f e =
-        let a = then_back (credential_at end ws) (λ s ws. Ok (add s, ws)) (c, []) e in
-        let same = got_same (add a.0) c a.1 [] a.3 in
-        let k = credential_back end ws a.0 (a.2 ∙ ap (λ l. Ok (a.0, l)) same.1) in
-        subst (CommandTook (w ∷ ws)) same.0 ((λ i. verb_back w.text verb.Add f i ∷ k.0 i), k.1)
+        let a = then_made (credential_at end ws) add c [] e in
+        let k = credential_back end ws a.0 a.1 in
+        subst (CommandTook (w ∷ ws)) a.2 ((λ i. verb_back w.text verb.Add f i ∷ k.0 i), k.1)
     go (Some verb.Withdraw) f e =
-        let a = then_back (statement_at end ws) (λ s ws. Ok (withdraw s, ws)) (c, []) e in
-        let same = got_same (withdraw a.0) c a.1 [] a.3 in
-        let k = bare_back ws a.0 (statement_back end ws a.0 [] (a.2 ∙ ap (λ l. Ok (a.0, l)) same.1)) in
-        subst (CommandTook (w ∷ ws)) same.0 ((λ i. verb_back w.text verb.Withdraw f i ∷ k.0 i), k.1)
+        let a = then_made (statement_at end ws) withdraw c [] e in
+        let k = bare_back ws a.0 (statement_back end ws a.0 [] a.1) in
+        subst (CommandTook (w ∷ ws)) a.2 ((λ i. verb_back w.text verb.Withdraw f i ∷ k.0 i), k.1)
     go (Some verb.Present) f e =
-        let a = then_back (credential_at end ws) (λ s ws. Ok (present s, ws)) (c, []) e in
-        let same = got_same (present a.0) c a.1 [] a.3 in
-        let k = credential_back end ws a.0 (a.2 ∙ ap (λ l. Ok (a.0, l)) same.1) in
-        subst (CommandTook (w ∷ ws)) same.0 ((λ i. verb_back w.text verb.Present f i ∷ k.0 i), k.1)
+        let a = then_made (credential_at end ws) present c [] e in
+        let k = credential_back end ws a.0 a.1 in
+        subst (CommandTook (w ∷ ws)) a.2 ((λ i. verb_back w.text verb.Present f i ∷ k.0 i), k.1)
 
 only_back : {X : Type 0} (g : Got X) (x : X) → done g ≡ Ok x → g ≡ Ok (x, [])
 only_back (Err e) x h = err_ok h

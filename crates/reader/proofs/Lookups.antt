@@ -1,5 +1,5 @@
 -- Names and their numbers, both ways.
-use Rattle.std.proofs.Common.{◌≡◌, ℕ, suc, ◌+◌, ◌<◌, Bool, true, false, cond, ltb, List, [], ◌∷◌, length, get_or, Some, None, Ok, Err, Result, sym, refl, ap, ◌∙◌, subst, arith}
+use Rattle.std.proofs.Common.{◌≡◌, ℕ, suc, ◌+◌, ◌<◌, Bool, true, false, cond, ltb, List, [], ◌∷◌, length, get_or, Some, None, Ok, sym, refl, ap, ◌∙◌, subst, arith}
 use Rattle.std.specs.Str.{bytes_eq}
 use Rattle.std.proofs.lemmas.Slice.Eq.{bytes_eq-Decides}
 use Rattle.std.proofs.lemmas.Bool.{and_parts, and_from, ltb-true, cond-true}
@@ -18,17 +18,11 @@ use Rattle.reader.specs.declared.sentence.Sentence.{Sentence}
 use Rattle.reader.specs.Sentences.{role_by, phrase_by, sentence_by}
 use Rattle.reader.specs.Calls.{and_then, known_by, known, known_role, known_body, known_claim}
 use Rattle.reader.specs.Spelling.{named_role, named_body, named, role_word}
+use Rattle.reader.proofs.Chains.{err_ok, and_then_back, and_then_made}
 use Rattle.reader.proofs.Forth.{at, RoleOk, BodyOk, Good, role_at, body_from, sentence_from}
 
 abbrev plain : Placed → List ℕ
 plain w = w.text
-
-pub err_ok : {X E A : Type 0} {e : E} {x : X} → ◌≡◌ {A = Result X E} (Err e) (Ok x) → A
-err_ok e = absurd (let z : ◌≡◌ {A = ℕ} 0 1 = cc in omega arith)
-
-pub and_then_back : {X Y E : Type 0} (r : Result X E) (f : X → Result Y E) (y : Y) → and_then r f ≡ Ok y → (x : X) × (r ≡ Ok x) × (f x ≡ Ok y)
-and_then_back (Err e) f y h = err_ok h
-and_then_back (Ok x) f y h = (x, refl, h)
 
 -- back: a number that was found is enrolled, and its name is the word
 
@@ -54,11 +48,10 @@ module _ (p : Plain) where
   role_back : (r : RoleText Placed) (q : Role) → known_role p.entities p.role_names r ≡ Ok q → (role_enrolled (length p.entities) (length p.role_names) q ≡ true) × (named_role p q ≡ role_by plain r)
   role_back r q h =
       let a = and_then_back (known p.entities r.entity) (λ e. and_then (known p.role_names r.name) (λ n. Ok (record { entity = record { 0 = e }; name = record { 0 = n } }))) q h in
-      let b = and_then_back (known p.role_names r.name) (λ n. Ok (record { entity = record { 0 = a.0 }; name = record { 0 = n } })) q a.2 in
-      let is : record { entity = record { 0 = a.0 }; name = record { 0 = b.0 } } ≡ q = let t = b.2 in cc in
+      let b = and_then_made (known p.role_names r.name) (λ n. record { entity = record { 0 = a.0 }; name = record { 0 = n } }) q a.2 in
       let x = known_back p.entities r.entity a.0 a.1 in
       let y = known_back p.role_names r.name b.0 b.1 in
-      subst (λ s. (role_enrolled (length p.entities) (length p.role_names) s ≡ true) × (named_role p s ≡ role_by plain r)) is
+      subst (λ s. (role_enrolled (length p.entities) (length p.role_names) s ≡ true) × (named_role p s ≡ role_by plain r)) b.2
       (and_from _ _ x.0 y.0, (λ i. record { entity = x.1 i; name = y.1 i }))
 
   abbrev BodyBack : {W : Type 0} → Phrase Placed W → Body W → Type 0
@@ -66,38 +59,33 @@ module _ (p : Plain) where
 
   body_back : {W : Type 0} (ph : Phrase Placed W) (b : Body W) → known_body p.entities p.role_names ph ≡ Ok b → BodyBack ph b
   body_back (Member x w) b h =
-      let a = and_then_back (known p.entities x) (λ e. Ok (body.Member (record { 0 = e }) w)) b h in
-      let is : body.Member (record { 0 = a.0 }) w ≡ b = let t = a.2 in cc in
+      let a = and_then_made (known p.entities x) (λ e. body.Member (record { 0 = e }) w) b h in
       let k = known_back p.entities x a.0 a.1 in
-      subst (BodyBack (Member x w)) is (k.0, ap (λ l. Member l w) k.1)
+      subst (BodyBack (Member x w)) a.2 (k.0, ap (λ l. Member l w) k.1)
   body_back (Delegation r) b h =
-      let a = and_then_back (known_role p.entities p.role_names r) (λ q. Ok (body.Delegation q)) b h in
-      let is : body.Delegation a.0 ≡ b = let t = a.2 in cc in
+      let a = and_then_made (known_role p.entities p.role_names r) body.Delegation b h in
       let k = role_back r a.0 a.1 in
-      subst (BodyBack (Delegation r)) is (k.0, ap Delegation k.1)
+      subst (BodyBack (Delegation r)) a.2 (k.0, ap Delegation k.1)
   body_back (Link r t) b h =
       let a = and_then_back (known_role p.entities p.role_names r) (λ q. and_then (known p.role_names t) (λ n. Ok (body.Link q (record { 0 = n })))) b h in
-      let c = and_then_back (known p.role_names t) (λ n. Ok (body.Link a.0 (record { 0 = n }))) b a.2 in
-      let is : body.Link a.0 (record { 0 = c.0 }) ≡ b = let u = c.2 in cc in
+      let c = and_then_made (known p.role_names t) (λ n. body.Link a.0 (record { 0 = n })) b a.2 in
       let k = role_back r a.0 a.1 in
       let l = known_back p.role_names t c.0 c.1 in
-      subst (BodyBack (Link r t)) is (and_from _ _ k.0 l.0, (λ i. Link (k.1 i) (l.1 i)))
+      subst (BodyBack (Link r t)) c.2 (and_from _ _ k.0 l.0, (λ i. Link (k.1 i) (l.1 i)))
   body_back (Intersection r s) b h =
       let a = and_then_back (known_role p.entities p.role_names r) (λ q. and_then (known_role p.entities p.role_names s) (λ u. Ok (body.Intersection q u))) b h in
-      let c = and_then_back (known_role p.entities p.role_names s) (λ u. Ok (body.Intersection a.0 u)) b a.2 in
-      let is : body.Intersection a.0 c.0 ≡ b = let u = c.2 in cc in
+      let c = and_then_made (known_role p.entities p.role_names s) (body.Intersection a.0) b a.2 in
       let k = role_back r a.0 a.1 in
       let l = role_back s c.0 c.1 in
-      subst (BodyBack (Intersection r s)) is (and_from _ _ k.0 l.0, (λ i. Intersection (k.1 i) (l.1 i)))
+      subst (BodyBack (Intersection r s)) c.2 (and_from _ _ k.0 l.0, (λ i. Intersection (k.1 i) (l.1 i)))
 
   pub claim_back : {W : Type 0} (s : Sentence Placed W) (c : Claim W) → known_claim p.entities p.role_names s ≡ Ok c → (enrolled p c ≡ true) × (named p c ≡ sentence_by plain s)
   claim_back s c h =
       let a = and_then_back (known_role p.entities p.role_names s.head) (λ q. and_then (known_body p.entities p.role_names s.body) (λ b. Ok (record { head = q; body = b }))) c h in
-      let d = and_then_back (known_body p.entities p.role_names s.body) (λ b. Ok (record { head = a.0; body = b })) c a.2 in
-      let is : record { head = a.0; body = d.0 } ≡ c = let u = d.2 in cc in
+      let d = and_then_made (known_body p.entities p.role_names s.body) (λ b. record { head = a.0; body = b }) c a.2 in
       let k = role_back s.head a.0 a.1 in
       let l = body_back s.body d.0 d.1 in
-      subst (λ t. (enrolled p t ≡ true) × (named p t ≡ sentence_by plain s)) is (and_from _ _ k.0 l.0, (λ i. record { head = k.1 i; body = l.1 i }))
+      subst (λ t. (enrolled p t ≡ true) × (named p t ≡ sentence_by plain s)) d.2 (and_from _ _ k.0 l.0, (λ i. record { head = k.1 i; body = l.1 i }))
 
 -- forth: the name of an enrolled number is found at that number
 

@@ -16,7 +16,8 @@ use Rattle.reader.specs.Spelling.{spelled, spelled_bare, named}
 use Rattle.reader.specs.RoundTrip.{SpelledBack, Fits32, BodyFits, ReadBack}
 use Rattle.reader.proofs.Back.{add_back, withdraw_back, present_back}
 use Rattle.reader.proofs.Forth.{Nothing, add_forth, withdraw_forth, present_forth}
-use Rattle.reader.proofs.Lookups.{err_ok, and_then_back, claim_back, claim_forth, claim_good, CarriedOk}
+use Rattle.reader.proofs.Chains.{err_ok, and_then_back}
+use Rattle.reader.proofs.Lookups.{claim_back, claim_forth, claim_good, CarriedOk}
 
 faulty_back : {X : Type 0} (n : ℕ) (r : Result X ℕ) (x : X) → faulty n r ≡ Ok x → r ≡ Ok x
 faulty_back n (Ok y) x e = let is : y ≡ x = cc in ap Ok is

@@ -5,6 +5,7 @@ use Rattle.std.specs.Int.{IsInRange}
 use Rattle.std.specs.Fmt.{signed_decimal}
 use Rattle.std.proofs.lemmas.Fmt.{digits_decimal, decimal_nonempty}
 use Rattle.std.proofs.lemmas.Str.Parse.{digit_from_value, digit_at}
+use Rattle.std.proofs.lemmas.Option.{none-some, cond_some}
 use Rattle.std.proofs.lemmas.Bool.{false≢true, and_parts, and_from, and_left, and_right, eqb-true, ne_eqb, lt-leb, cond-true, cond-false}
 use Rattle.words.specs.Integer.{integer}
 use Rattle.words.proofs.Spelling.{own, from_integer, integer_signed}
@@ -15,15 +16,8 @@ use Rattle.reader.specs.declared.tokens.Sign.TheVariants.{Arrow, And, Colon}
 use Rattle.book.specs.Names.{entity, role_name, name, name_byte, name_bytes}
 use Rattle.reader.specs.Tokens.{Tok, one, role, link, number, mark, sign_of, sign_or_number, single, by_parts, token_of, sign_text, text, Sound, moved}
 
-at : ℕ → List ℕ → Placed
-at n l = record { byte = n; text = l }
-
-none_some : {X A : Type 0} {x : X} → ◌≡◌ {A = Option X} None (Some x) → A
-none_some e = absurd (let z : ◌≡◌ {A = ℕ} 0 1 = cc in omega arith)
-
-cond_some : {X : Type 0} (b : Bool) (x y : X) → cond b (Some x) None ≡ Some y → (b ≡ true) × (x ≡ y)
-cond_some true x y e = (refl, cc)
-cond_some false x y e = none_some e
+pub none_some : {X A : Type 0} {x : X} → ◌≡◌ {A = Option X} None (Some x) → A
+none_some e = absurd (none-some _ e)
 
 -- a token is t, whose bytes are l
 abbrev Is : Tok → List ℕ → Type 0

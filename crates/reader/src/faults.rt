@@ -12,7 +12,8 @@ pub struct Malformed {
     pub byte: usize,
 }
 
-// The place of the first name that is not enrolled.
+// The place of the first name that is not enrolled. It has the shape of `Malformed`: by the two types
+// `?` tells the faults apart.
 #[derive(Clone, Copy, PartialEq)]
 pub struct Unknown {
     pub byte: usize,
@@ -42,6 +43,7 @@ impl ReadFault {
     }
 }
 
+// Each From by hand: a derived one says nothing of what it gives.
 impl From<Malformed> for ReadFault {
     ghost from_gives = { λ e r. r ≡ fault.Malformed e.byte };
 

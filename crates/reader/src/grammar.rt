@@ -57,6 +57,7 @@ impl<'a> Words<'a> {
         })
     }
 
+    // Here and below each word meets a pattern of its own: passed as a closure it would be no shorter.
     fn role(&mut self) -> Result<RoleText<Part<'a>>, Malformed>
         ensures { Reads (role_by told) (fit a_role) self.old result self.new }
     {
@@ -150,7 +151,8 @@ impl<'a> Words<'a> {
         Ok(Sentence { head, body })
     }
 
-    // A membership ends in its weight, and no other body does.
+    // A membership ends in its weight, and no other body does. Each variant is written out, since
+    // a trait of what a membership carries would take as many lines.
     fn weighed(&mut self, bare: Phrase<Part<'a>, ()>) -> Result<Phrase<Part<'a>, Record>, Malformed>
         ensures { Reads (phrase_by told) (λ end ws. weighed_at end (phrase_by told bare.entry) ws) self.old result self.new }
     {

@@ -48,15 +48,15 @@ fn body<W: Copy>(register: &Register, phrase: Phrase<Part, W>) -> Result<Body<W>
     ensures { unknown_at (λ x. x) result ≡ known_body (entities register.now) (role_names register.now) (phrase_by told phrase.entry) }
 {
     match phrase {
-        Phrase::Member(x, w) => Ok(Body::Member(named(register, x)?, w)),
-        Phrase::Delegation(b) => Ok(Body::Delegation(role(register, b)?)),
-        Phrase::Link(b, t) => {
-            let b = role(register, b)?;
-            Ok(Body::Link(b, named(register, t)?))
+        Phrase::Member(entity, carried) => Ok(Body::Member(named(register, entity)?, carried)),
+        Phrase::Delegation(text) => Ok(Body::Delegation(role(register, text)?)),
+        Phrase::Link(text, name) => {
+            let role = role(register, text)?;
+            Ok(Body::Link(role, named(register, name)?))
         }
-        Phrase::Intersection(b, c) => {
-            let b = role(register, b)?;
-            Ok(Body::Intersection(b, role(register, c)?))
+        Phrase::Intersection(text, other) => {
+            let first = role(register, text)?;
+            Ok(Body::Intersection(first, role(register, other)?))
         }
     }
 }

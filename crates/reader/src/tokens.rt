@@ -38,6 +38,7 @@ pub enum Token<'a> {
     Mark(Sign),
 }
 
+// No TryFrom, here and below: it would ask for an error that no caller reads.
 pub(crate) fn read_verb(word: &[u8]) -> Option<Verb>
     ensures { result ≡ verb_of word.now }
 {
