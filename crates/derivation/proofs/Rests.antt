@@ -1,6 +1,7 @@
 -- What a settled membership rests on by its reason is settled, and enrolled.
 use Rattle.std.proofs.Common.{◌≡◌, ℕ, zero, suc, ◌<◌, ◌≤◌, ◌⊎◌, List, [], map, length, Some, None, Option, sym, refl, ap, ◌∙◌, subst, inl, inr, arith}
 use mathlib.Core.List.{Memᴰ}
+use mathlib.Core.List.Memᴰ
 use Rattle.std.specs.List.{slice_get}
 use Rattle.std.proofs.lemmas.Option.{get_or_from_slice_get, slice_get_past, slice_get_within}
 use Rattle.std.proofs.lemmas.List.Elements.{All-from_recursion}
@@ -17,7 +18,7 @@ use Rattle.rules.specs.Tables.{because, candidate, weight_by, system, table, Set
 use Rattle.rules.specs.Reasons.{Earned}
 use Rattle.rules.specs.Grants.{rests_by, rests_with, rests_on}
 use Rattle.rules.proofs.Order.{best_picks}
-use Rattle.rules.proofs.Rounds.{mem_of_map, product_below}
+use Rattle.rules.proofs.Rounds.{product_below}
 use Rattle.rules.proofs.Reasons.{Earned as Earning}
 use Rattle.rules.proofs.Listed.{Named, From, comes_from}
 use Rattle.rules.proofs.Earning.{as_earned, reasons_are_earned}
@@ -40,9 +41,9 @@ module _ {S : Type 0} (M : Meaning S) (laws : Laws M) (chooses : Chooses M) (E :
       by : (table M E cs (suc k) q ≡ None) ⊎ Memᴰ (table M E cs (suc k) q) (map (weighs M (table M E cs k)) (system M E cs q)) → (w : Way S) × Memᴰ w (ways M E cs q) × (weight_by M (table M E cs k) w ≡ None → ⊥)
       by (inl z) = absurd (h z)
       by (inr m) =
-          let a = mem_of_map (weighs M (table M E cs k)) (system M E cs q) m in
-          let b = mem_of_map (candidate M) (ways M E cs q) a.1 in
-          (b.0, b.1, λ z. h (a.2 ∙ ap (weighs M (table M E cs k)) b.2 ∙ z))
+          let a = Memᴰ.of_map (weighs M (table M E cs k)) (system M E cs q) m in
+          let b = Memᴰ.of_map (candidate M) (ways M E cs q) a.1 in
+          (b.0, b.1, λ z. h (sym a.2 ∙ ap (weighs M (table M E cs k)) (sym b.2) ∙ z))
 
   module _ (known : AllIn E cs) where
     -- only what is enrolled is ever settled

@@ -6,13 +6,6 @@ use Rattle.scale.specs.Scale.{Meaning, Laws, AtLeast}
 use Rattle.rules.specs.System.{System, Table, product, weighs, round, after, Closed}
 use Rattle.rules.proofs.Order.{at_least_refl, at_least_trans, at_least_none, combine_mono_both, combine_below, combine_below_right, best_upper, best_least}
 
--- for the crates above that cite them under these names
-pub mem_map : {A B : Type 0} (f : A → B) {a : A} (xs : List A) → Memᴰ a xs → Memᴰ (f a) (map f xs)
-mem_map f xs m = Memᴰ.map f m
-
-pub mem_of_map : {A B : Type 0} (f : A → B) {b : B} (xs : List A) → Memᴰ b (map f xs) → (a : A) × Memᴰ a xs × (b ≡ f a)
-mem_of_map f xs m = let r = Memᴰ.of_map f xs m in (r.0, r.1, sym r.2)
-
 pub data Distinct {C : Type 0} : List C → Type 0 where
   nothing : Distinct []
   one_more : {c : C} {cs : List C} → (Memᴰ c cs → ⊥) → Distinct cs → Distinct (c ∷ cs)

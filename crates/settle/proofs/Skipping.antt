@@ -1,6 +1,7 @@
 -- What a round leaves out can change nothing: the flags say which rows the last round changed.
 use Rattle.std.proofs.Common.{◌≡◌, ℕ, zero, suc, ◌<◌, ◌≤◌, Bool, false, ◌⊎◌, List, [], ◌∷◌, map, Some, None, Option, sym, refl, ap, ◌∙◌, subst, ap₂, inl, inr, true≢false}
 use mathlib.Core.List.{Memᴰ}
+use mathlib.Core.List.Memᴰ
 use Rattle.std.proofs.lemmas.Bool.{cases_lt, or_parts}
 use Rattle.scale.specs.Scale.{Meaning, Laws, combined, AtLeast}
 use Rattle.credential.specs.declared.Role.{Role}
@@ -11,7 +12,6 @@ use Rattle.rules.specs.Ways.{belongs, Way, ways}
 use Rattle.rules.specs.Tables.{candidate, weight_by, table}
 use Rattle.rules.specs.Cells.{heads, number}
 use Rattle.rules.proofs.Order.{at_least_none, best_upper}
-use Rattle.rules.proofs.Rounds.{mem_map}
 use Rattle.heads.specs.Enrolled.{AllIn}
 use Rattle.settle.specs.Moves.{flag_of, moved, worth_by, worth}
 use Rattle.settle.proofs.Beyond.{beyond, headless}
@@ -64,4 +64,4 @@ module _ {S : Type 0} (m : Meaning S) (laws : Laws m) (E : ℕ) (cs : List Crede
       subst (λ (v : Option S). AtLeast m None v) (sym none) (at_least_none m laws None)
   skipped_below (suc k) changed unmoved first q y i f =
       subst (λ (v : Option S). AtLeast m (table m E cs (suc k) q) v) (sym (same_product (suc k) changed unmoved y.weight y.premises f))
-      (best_upper m laws (map (weighs m (table m E cs k)) (map (candidate m) (ways m E cs q))) (mem_map (weighs m (table m E cs k)) (map (candidate m) (ways m E cs q)) (mem_map (candidate m) (ways m E cs q) i)))
+      (best_upper m laws (map (weighs m (table m E cs k)) (map (candidate m) (ways m E cs q))) (Memᴰ.map (weighs m (table m E cs k)) (Memᴰ.map (candidate m) i)))
