@@ -34,7 +34,7 @@ pub enum DecideRefusal {
 }
 
 impl DecideRefusal {
-    // Its number in the list of refusals.
+    // Its number in the list of refusals. A match: the cases that carry values have no discriminants to cast.
     pub fn number(self) -> u8
         ensures { result ≡ number self }
     {

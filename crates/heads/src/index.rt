@@ -11,7 +11,8 @@ const HEAD_SLOTS: usize = 2048;
 
 const ROLE_NAMES: usize = 32;
 
-// The number of each head in its slot, and how many heads there are.
+// The number of each head in its slot, and how many heads there are. The slots are an array, since no
+// decision may want memory.
 #[derive(Drop)]
 pub struct HeadIndex {
     numbers: [Option<u16>; HEAD_SLOTS],

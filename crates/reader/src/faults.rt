@@ -30,7 +30,7 @@ pub enum ReadFault {
 }
 
 impl ReadFault {
-    // Its number in the list of refusals.
+    // Its number in the list of refusals. A match: the cases carry values, and two carry another refusal.
     pub fn number(self) -> u8
         ensures { result ≡ fault_number self }
     {

@@ -18,5 +18,5 @@ pub struct Slip {
 // What present refuses. `number` in specs/Slips.antt gives it its number.
 #[derive(Clone, Copy, PartialEq, Eq, Debug)]
 pub enum SlipRefusal {
-    Full,
+    Full = 20,
 }

@@ -23,6 +23,7 @@ impl Register {
         })
     }
 
+    // Here and in the book a call's three clauses stay apart: one fact over them would have to be opened.
     pub fn enrol(&mut self, word: &[u8]) -> Result<Enrolled, Refusal>
         ensures answers { (b : AnyBook) → enrol_said result ≡ answer (plain self.old b) (enrol word.now) }
         ensures changes { (b : AnyBook) → plain self.new b ≡ next (plain self.old b) (enrol word.now) }

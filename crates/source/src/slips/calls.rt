@@ -10,9 +10,7 @@ impl SlipRefusal {
     pub fn number(self) -> u8
         ensures { result ≡ number self }
     {
-        match self {
-            SlipRefusal::Full => 20,
-        }
+        self as u8
     }
 }
 
