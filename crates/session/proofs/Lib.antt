@@ -1,3 +1,3 @@
 pub mod Lists
-pub mod Prints
 pub mod Runs
+pub mod Inputs

@@ -1,8 +1,7 @@
--- The credentials in force are enrolled: for the inner functions of the roster.
-use Rattle.std.specs.Prelude.{◌≡◌, true, List, [], ◌∷◌}
-use Rattle.credential.specs.Same.{Credential}
+-- The credentials in force are enrolled: what a session keeps.
+use Rattle.std.specs.Prelude.{Bool}
+use Rattle.std.specs.List.{list_all}
 use Rattle.book.specs.Plain.{Plain, enrolled}
 
-abbrev pub Enrolled : Plain → List Credential → Type 0
-Enrolled p [] = Unit {0}
-Enrolled p (c ∷ cs) = (enrolled p c ≡ true) × Enrolled p cs
+abbrev pub all_enrolled : Plain → Bool
+all_enrolled p = list_all (enrolled p) p.credentials

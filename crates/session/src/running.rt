@@ -1,11 +1,13 @@
 // A whole input answered line by line.
-ghost use Rattle.std.specs.Prelude.{◌≡◌, IfOk, string_bytes, OnOk};
+ghost use Rattle.std.specs.Prelude.{◌≡◌, [], ◌∷◌, IfOk, MatchOption, string_bytes, OnOk};
 ghost use Rattle.reader.specs.Told.{at_byte};
-ghost use Rattle.session.specs.Transcript.{start, part_line, header, others, transcript};
+ghost use Rattle.session.specs.Transcript.{start, header, others, transcript};
+ghost use Rattle.session.specs.Roster.{in_force, roster};
 ghost use Rattle.session.specs.State.{state};
-ghost use Rattle.session.specs.Turns.{left_lines, Answered};
+ghost use Rattle.session.specs.Turns.{told_line, left_lines, Answered};
 
-use crate::printing::{print_fault, print_reply};
+use crate::lines::{Line, Lines};
+use crate::printing::print_fault;
 use crate::state::Session;
 use book::{Book, Register};
 use reader::Malformed;
@@ -13,10 +15,16 @@ use reader::grammar::parse_header;
 use reader::lines::read;
 use source::Slip;
 use std::alloc::{AllocError, Global};
-use words::{Part, Parts};
 
 // An input may have at most this many bytes.
 pub const MOST_BYTES: usize = 32_768;
+
+// What comes of an input: what is printed and, where its lines are answered, the session after them.
+#[derive(Drop)]
+pub(crate) struct Run {
+    pub(crate) printed: String,
+    pub(crate) session: Option<Session>,
+}
 
 impl Session {
     // With no names, no credentials and nothing presented.
@@ -33,64 +41,76 @@ impl Session {
         })
     }
 
-    // Obeys what stands between two line feeds, and prints its refusal, if any.
-    fn answer(&mut self, text: &[u8], ended: bool, out: &mut String) -> Result<(), AllocError>
-        ensures { OnOk result (Answered (state self.old) (part_line text.now ended) (string_bytes out.old) (state self.new) (string_bytes out.new)) }
+    // Obeys a line, and prints its refusal, if any.
+    fn answer(&mut self, line: Line, out: &mut String) -> Result<(), AllocError>
+        ensures { OnOk result (Answered (state self.old) (told_line line.entry ∷ []) (string_bytes out.old) (state self.new) (string_bytes out.new)) }
     {
-        // Nothing after the last line feed is no line.
-        if !ended && text.is_empty() {
-            return Ok(());
-        }
         let reply = read(
             &mut self.register,
             &mut self.book,
             &mut self.slip,
-            text,
-            ended,
+            line.text,
+            line.ended,
         );
-        print_reply(out, reply)
+        match reply {
+            Ok(_) => Ok(()),
+            Err(fault) => print_fault(out, fault),
+        }
     }
 
-    pub(crate) fn answer_all(
-        &mut self,
-        lines: &mut Parts,
-        out: &mut String,
-    ) -> Result<(), AllocError>
-        ensures { OnOk result (Answered (state self.old) (left_lines lines.old) (string_bytes out.old) (state self.new) (string_bytes out.new)) }
+    fn answer_all(&mut self, lines: Lines, out: &mut String) -> Result<(), AllocError>
+        ensures { OnOk result (Answered (state self.old) (left_lines lines.entry) (string_bytes out.old) (state self.new) (string_bytes out.new)) }
     {
-        while let Some(line) = lines.next() {
-            let ended = !lines.is_empty();
-            self.answer(line.text, ended, out)?;
+        for line in lines {
+            self.answer(line, out)?;
         }
         Ok(())
     }
 }
 
 // The first line; the others are left.
-pub(crate) fn check_header(lines: &mut Parts) -> Result<(), Malformed>
+fn check_header(lines: &mut Lines) -> Result<(), Malformed>
     ensures value { at_byte (λ x. x) result ≡ header (left_lines lines.old) }
     ensures rest { left_lines lines.new ≡ others (left_lines lines.old) }
 {
-    let Some(line) = lines.next() else {
-        return Err(Malformed { byte: 1 });
-    };
-    let ended = !lines.is_empty();
-    parse_header(line.text, ended)
+    let line = lines.next().ok_or(Malformed { byte: 1 })?;
+    parse_header(line.text, line.ended)
+}
+
+impl Run {
+    pub(crate) fn of(heap: Global, input: &[u8]) -> Result<Run, AllocError>
+        ensures prints { IfOk result (λ r. string_bytes r.printed ≡ transcript input.now) }
+        ensures leaves { IfOk result (λ r. MatchOption r.session (transcript input.now ≡ roster input.now) (λ s. in_force (state s).book ≡ roster input.now)) }
+    {
+        let mut printed = String::new(heap);
+        if input.len() > MOST_BYTES {
+            printed.push_str("too long\n")?;
+            return Ok(Run {
+                printed,
+                session: None,
+            });
+        }
+        let mut lines = Lines::of(input);
+        if let Err(fault) = check_header(&mut lines) {
+            print_fault(&mut printed, fault.into())?;
+            return Ok(Run {
+                printed,
+                session: None,
+            });
+        }
+        let mut session = Session::new(heap)?;
+        session.answer_all(lines, &mut printed)?;
+        Ok(Run {
+            printed,
+            session: Some(session),
+        })
+    }
 }
 
 // What the gate prints for an input.
 pub fn transcript(heap: Global, input: &[u8]) -> Result<String, AllocError>
     ensures { IfOk result (λ s. string_bytes s ≡ transcript input.now) }
 {
-    if input.len() > MOST_BYTES {
-        return String::from_str(heap, "too long\n");
-    }
-    let mut session = Session::new(heap)?;
-    let mut out = String::new(heap);
-    let mut lines = Part::whole(input).split(b'\n');
-    match check_header(&mut lines) {
-        Ok(()) => session.answer_all(&mut lines, &mut out)?,
-        Err(fault) => print_fault(&mut out, fault.into())?,
-    }
-    Ok(out)
+    let Run { printed, .. } = Run::of(heap, input)?;
+    Ok(printed)
 }

@@ -1,3 +1,7 @@
+ghost use Rattle.std.specs.Prelude.{◌≡◌, true};
+ghost use Rattle.book.specs.Kept.{plain};
+ghost use Rattle.session.specs.Listed.{all_enrolled};
+
 use book::{Book, Register};
 use source::Slip;
 
@@ -7,4 +11,5 @@ pub struct Session {
     pub(crate) register: Register,
     pub(crate) book: Book,
     pub(crate) slip: Slip,
+    ghost enrolled: { all_enrolled (plain register book) ≡ true },
 }
