@@ -9,6 +9,8 @@ mod edges;
 #[cfg(test)]
 mod header;
 #[cfg(test)]
+mod input;
+#[cfg(test)]
 mod limits;
 #[cfg(test)]
 mod lines;

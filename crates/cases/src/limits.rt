@@ -1,5 +1,5 @@
 // How much there may be: names, credentials and bytes.
-use crate::run::{all, prints, repeated};
+use crate::run::{all, prints};
 use std::alloc::Global;
 use std::test::Fail;
 
@@ -109,7 +109,7 @@ fn credentials(rt: HostRuntime) -> Result<(), Fail> {
 fn bytes(rt: HostRuntime) -> Result<(), Fail> {
     let heap = rt.alloc();
     // 32,767 bytes, and then 1 or 2 more.
-    let letters = repeated(heap, "a", 32_752)?;
+    let letters = "a".repeat(heap, 32_752)?;
     let name = format!(in heap; "RTW 0001\nenrol {letters}")?;
     assert_eq!(rt; name.len(), 32_767);
     all(
@@ -124,7 +124,7 @@ fn bytes(rt: HostRuntime) -> Result<(), Fail> {
         ],
     )?;
     // Nothing of an input that is too long is looked at.
-    let other = repeated(heap, "a", 32_768)?;
+    let other = "a".repeat(heap, 32_768)?;
     all(
         &rt,
         heap,
@@ -137,8 +137,8 @@ fn bytes(rt: HostRuntime) -> Result<(), Fail> {
 #[test]
 fn lines(rt: HostRuntime) -> Result<(), Fail> {
     let heap = rt.alloc();
-    let empty = repeated(heap, "\n", 32_759)?;
-    let expected = repeated(heap, "refused 17 byte 1\n", 32_759)?;
+    let empty = "\n".repeat(heap, 32_759)?;
+    let expected = "refused 17 byte 1\n".repeat(heap, 32_759)?;
     let input = format!(in heap; "RTW 0001\n{empty}")?;
     assert_eq!(rt; input.len(), 32_768);
     prints(&rt, heap, input.as_bytes(), expected.as_str())

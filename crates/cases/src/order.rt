@@ -1,5 +1,5 @@
 // Which statements are the same, and which refusal comes first.
-use crate::run::{all, prints, repeated};
+use crate::run::{all, prints};
 use std::alloc::Global;
 use std::test::Fail;
 
@@ -126,8 +126,8 @@ fn first_grounds(rt: HostRuntime) -> Result<(), Fail> {
 #[test]
 fn each_again(rt: HostRuntime) -> Result<(), Fail> {
     let heap = rt.alloc();
-    let stated = repeated(heap, "refused 6\n", 14)?;
-    let gone = repeated(heap, "refused 8\n", 14)?;
+    let stated = "refused 6\n".repeat(heap, 14)?;
+    let gone = "refused 8\n".repeat(heap, 14)?;
     let none = added(heap, &[WITHDRAWN])?;
     prints(
         &rt,

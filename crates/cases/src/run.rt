@@ -32,12 +32,3 @@ pub(crate) fn all(
     }
     Ok(())
 }
-
-// The text `n` times.
-pub(crate) fn repeated(heap: Global, text: &str, n: usize) -> Result<String, Fail> {
-    let mut out = String::new(heap);
-    for _ in 0..n {
-        out.push_str(text)?;
-    }
-    Ok(out)
-}
