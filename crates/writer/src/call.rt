@@ -24,9 +24,7 @@ pub fn write(
     ensures short { (b : AnyBook) → enrolled (plain register.now b) credential.now ≡ true → length (text (plain register.now b) credential.now) ≤ 154 }
     ensures read_back { (b : AnyBook) → IfOk result (λ n. ReadAgain (plain register.now b) credential.now (take n buffer.new)) }
 {
-    let Some(sentence) = name_credential(register, credential) else {
-        return Err(WriteRefusal::NotEnrolled);
-    };
+    let sentence = name_credential(register, credential).ok_or(WriteRefusal::NotEnrolled)?;
     let draft = spell(sentence);
     place(draft.as_slice(), buffer)
 }
@@ -42,6 +40,6 @@ fn place(text: &[u8], buffer: &mut [u8]) -> Result<usize, WriteRefusal>
     if buffer.len() < len {
         return Err(WriteRefusal::BufferTooShort);
     }
-    buffer[0..len].copy_from_slice(text);
+    buffer[..len].copy_from_slice(text);
     Ok(len)
 }
