@@ -1,7 +1,7 @@
 // Decide on the scale that a word names, over the book and the slip.
 use book::{Book, Register};
 use credential::{Body, Claim, Entity, Record, Role, RoleName};
-use decision::{DecideRefusal, Verdict};
+use decision::{DecideRefusal, Request, Verdict};
 use rules::Membership;
 use ruling::asking::ScaleWord;
 use ruling::{Asked, Weight, decide_asked};
@@ -40,11 +40,13 @@ fn record(ceiling: i32, distance: i32) -> Record {
 fn asked(scale: ScaleWord, threshold: Record) -> Asked {
     Asked {
         scale,
-        goal: Membership {
-            role: role(FORGE, PUSH),
-            member: Entity(DANA),
+        request: Request {
+            goal: Membership {
+                role: role(FORGE, PUSH),
+                member: Entity(DANA),
+            },
+            threshold,
         },
-        threshold,
     }
 }
 

@@ -1,7 +1,7 @@
 // Decide on sources and lists of the caller's own: how many credentials and cells there may be.
 use book::{Book, Register};
 use credential::{Body, Claim, Entity, Record, Role, RoleName};
-use decision::{DecideRefusal, Verdict, Work, decide};
+use decision::{DecideRefusal, Request, Verdict, Work, decide};
 use rules::{Membership, Reason, Step};
 use scale::yes::Yes;
 use source::{Join, Origin, Slip, Source};
@@ -79,11 +79,13 @@ fn ask<R: Source>(
     decide(
         names,
         source,
-        Membership {
-            role: role(15, 15),
-            member: E0,
+        Request {
+            goal: Membership {
+                role: role(15, 15),
+                member: E0,
+            },
+            threshold: RECORD,
         },
-        RECORD,
         Work {
             former: &mut former[0..weights.min(4096)],
             latest: &mut latest[0..4096],

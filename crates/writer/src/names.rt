@@ -18,8 +18,8 @@ fn name_role<'a>(register: &'a Register, role: Role) -> Option<RoleText<&'a [u8]
     ensures value { option_map (role_by (λ x. x.now)) result ≡ then_some (role_enrolled (length (entities register.now)) (length (role_names register.now)) role) (named_role (names_only register.now) role) }
     ensures short { IfSome result (λ s. length (role_word (role_by (λ x. x.now) s)) ≤ 49) }
 {
-    let entity = register.spell_entity(role.entity)?;
-    let name = register.spell_role_name(role.name)?;
+    let entity = register.spell(role.entity)?;
+    let name = register.spell(role.name)?;
     Some(RoleText { entity, name })
 }
 
@@ -29,11 +29,11 @@ fn name_body<'a>(register: &'a Register, body: Body<Record>) -> Option<Phrase<&'
     ensures numbers { BodyFits body }
 {
     match body {
-        Body::Member(x, weight) => Some(Phrase::Member(register.spell_entity(x)?, weight)),
+        Body::Member(x, weight) => Some(Phrase::Member(register.spell(x)?, weight)),
         Body::Delegation(b) => Some(Phrase::Delegation(name_role(register, b)?)),
         Body::Link(b, t) => Some(Phrase::Link(
             name_role(register, b)?,
-            register.spell_role_name(t)?,
+            register.spell(t)?,
         )),
         Body::Intersection(b, c) => Some(Phrase::Intersection(
             name_role(register, b)?,
