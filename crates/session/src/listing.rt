@@ -6,7 +6,7 @@ ghost use Rattle.session.specs.Roster.{in_force, roster};
 use crate::running::Run;
 use crate::state::Session;
 use std::alloc::{AllocError, Global};
-use writer::{CAPACITY, write};
+use writer::statement_text;
 
 impl Session {
     // Each statement as add spells it, on a line of its own.
@@ -14,10 +14,9 @@ impl Session {
         ensures { IfOk result (λ v. v.items ≡ in_force (state self.now).book) }
     {
         let mut out = Vec::new(heap);
-        let mut buffer = [0u8; CAPACITY];
         for credential in self.book.credentials() {
-            let len = write(&self.register, credential, &mut buffer).unwrap();
-            out.extend_from_slice(&buffer[..len])?;
+            let text = statement_text(&self.register, credential).unwrap();
+            out.extend_from_slice(text.as_slice())?;
             out.push(b'\n')?;
         }
         Ok(out)

@@ -9,6 +9,6 @@ mod spelling;
 #[cfg(test)]
 mod tests;
 
-pub use call::write;
+pub use call::{statement_text, write};
 pub use refusal::WriteRefusal;
 pub use spelling::CAPACITY;
