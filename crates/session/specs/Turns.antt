@@ -2,8 +2,8 @@
 use Rattle.std.specs.Prelude.{◌≡◌, ℕ, List, [], ◌∷◌, ◌++◌}
 use Rattle.words.specs.Split.{Placed}
 use Rattle.words.specs.Cursor.{todo}
+use Rattle.reader.specs.declared.grammar.Line.{Line as AnyLine}
 use Rattle.reader.specs.Calls.{State}
-use Rattle.session.specs.declared.lines.Line.{Line as AnyLine}
 use Rattle.session.specs.declared.lines.Lines.{Lines}
 use Rattle.session.specs.Transcript.{Line, lines_of, answers, after}
 

@@ -1,11 +1,6 @@
 // An input cut into its lines.
+use reader::Line;
 use words::{Part, Parts};
-
-#[derive(Clone, Copy)]
-pub struct Line<'a> {
-    pub text: &'a [u8],
-    pub ended: bool,
-}
 
 // The lines of an input that are not handed out yet.
 #[derive(Drop)]

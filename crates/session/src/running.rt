@@ -6,13 +6,13 @@ ghost use Rattle.session.specs.Roster.{in_force, roster};
 ghost use Rattle.session.specs.State.{state};
 ghost use Rattle.session.specs.Turns.{told_line, left_lines, Answered};
 
-use crate::lines::{Line, Lines};
+use crate::lines::Lines;
 use crate::printing::print_fault;
 use crate::state::Session;
 use book::{Book, Register};
-use reader::Malformed;
 use reader::grammar::parse_header;
 use reader::lines::read;
+use reader::{Line, Malformed};
 use source::Slip;
 use std::alloc::{AllocError, Global};
 
@@ -45,13 +45,7 @@ impl Session {
     fn answer(&mut self, line: Line, out: &mut String) -> Result<(), AllocError>
         ensures { OnOk result (Answered (state self.old) (told_line line.entry ∷ []) (string_bytes out.old) (state self.new) (string_bytes out.new)) }
     {
-        let reply = read(
-            &mut self.register,
-            &mut self.book,
-            &mut self.slip,
-            line.text,
-            line.ended,
-        );
+        let reply = read(&mut self.register, &mut self.book, &mut self.slip, line);
         match reply {
             Ok(_) => Ok(()),
             Err(fault) => print_fault(out, fault),
@@ -74,7 +68,7 @@ fn check_header(lines: &mut Lines) -> Result<(), Malformed>
     ensures rest { left_lines lines.new ≡ others (left_lines lines.old) }
 {
     let line = lines.next().ok_or(Malformed { byte: 1 })?;
-    parse_header(line.text, line.ended)
+    parse_header(line)
 }
 
 impl Run {

@@ -31,10 +31,7 @@ fn name_body<'a>(register: &'a Register, body: Body<Record>) -> Option<Phrase<&'
     match body {
         Body::Member(x, weight) => Some(Phrase::Member(register.spell(x)?, weight)),
         Body::Delegation(b) => Some(Phrase::Delegation(name_role(register, b)?)),
-        Body::Link(b, t) => Some(Phrase::Link(
-            name_role(register, b)?,
-            register.spell(t)?,
-        )),
+        Body::Link(b, t) => Some(Phrase::Link(name_role(register, b)?, register.spell(t)?)),
         Body::Intersection(b, c) => Some(Phrase::Intersection(
             name_role(register, b)?,
             name_role(register, c)?,
