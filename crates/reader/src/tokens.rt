@@ -1,6 +1,9 @@
 // What one word says.
-ghost use Rattle.std.specs.Prelude.{◌≡◌};
+ghost use Rattle.std.specs.Prelude.{◌≡◌, ◌&&◌};
 ghost use Rattle.std.specs.Option.{option_map};
+ghost use Rattle.std.specs.Bool.{then_some};
+ghost use Rattle.book.specs.Names as names;
+ghost use Rattle.reader.specs.Sentences.{role_by};
 ghost use Rattle.words.specs.Cursor.{told};
 ghost use Rattle.reader.specs.Tokens.{said, sign_of, single, token_of};
 ghost use Rattle.reader.specs.Verbs.{verb_of};
@@ -69,9 +72,16 @@ fn undotted<'a>(word: Part<'a>) -> Option<Token<'a>>
     if is_entity(word.text) {
         return Some(Token::Entity(word));
     }
-    read_sign(word.text).map(|sign| Token::Mark(sign)).or_else(|| read_integer(word.text).map(
-        |number| Token::Number(number),
-    ))
+    // Closures: the check finds no lifetime for a token in the bare name of a variant.
+    let mark = read_sign(word.text).map(|sign| Token::Mark(sign));
+    mark.or_else(|| read_integer(word.text).map(|number| Token::Number(number)))
+}
+
+// The two parts of a role.
+fn role_text<'a>(entity: Part<'a>, name: Part<'a>) -> Option<RoleText<Part<'a>>>
+    ensures { option_map (role_by told) result ≡ then_some (names.entity entity.entry.text.now && names.role_name name.entry.text.now) (record { entity = told entity.entry; name = told name.entry }) }
+{
+    (is_entity(entity.text) && is_role_name(name.text)).then_some(RoleText { entity, name })
 }
 
 pub(crate) fn read_token<'a>(word: Part<'a>) -> Option<Token<'a>>
@@ -80,11 +90,9 @@ pub(crate) fn read_token<'a>(word: Part<'a>) -> Option<Token<'a>>
     let mut parts = word.split(b'.');
     match (parts.next(), parts.next(), parts.next(), parts.next()) {
         (Some(entity), None, _, _) => undotted(entity),
-        (Some(entity), Some(name), None, _) if is_entity(entity.text) && is_role_name(name.text) =>
-            { Some(Token::Role(RoleText { entity, name })) }
-        (Some(entity), Some(name), Some(linked), None)
-            if is_entity(entity.text) && is_role_name(name.text) && is_role_name(linked.text) => {
-            Some(Token::Link(RoleText { entity, name }, linked))
+        (Some(entity), Some(name), None, _) => Some(Token::Role(role_text(entity, name)?)),
+        (Some(entity), Some(name), Some(linked), None) if is_role_name(linked.text) => {
+            Some(Token::Link(role_text(entity, name)?, linked))
         }
         _ => None,
     }
