@@ -13,7 +13,7 @@ use scale::yes::Yes;
 use scale::{Ceilings, Distances, Nearest};
 use source::Empty;
 
-// How many cells `decide_asked` lends.
+// How many cells `decide_asked` lends: arrays of fixed size, since no decision may want memory.
 pub const CELLS: usize = 2048;
 
 // What the lists hold before they are written.
@@ -48,6 +48,7 @@ pub struct Asked {
     pub request: Request,
 }
 
+// A function and no `From`, since a verdict is another crate's type.
 fn told<S: ToldScale>(verdict: Verdict<S>) -> Verdict<Weight>
     ensures { result ≡ verdict_by S.ToldScale.tells verdict }
 {
