@@ -1,11 +1,11 @@
 // Decide on the scale that a word names, over the book and the slip.
+use book::{Book, Register};
 use credential::{Body, Claim, Entity, Record, Role, RoleName};
 use decision::{DecideRefusal, Request, Verdict};
 use rules::Membership;
 use ruling::asking::ScaleWord;
 use ruling::{Asked, Weight, decide_asked};
-use run_state::State;
-use source::Origin;
+use source::{Origin, Slip};
 use std::alloc::Global;
 use std::process::Abort;
 use std::test::Fail;
@@ -50,12 +50,17 @@ fn asked(scale: ScaleWord, threshold: Record) -> Asked {
     }
 }
 
-// A link over whom Forge vouches for, and Dana at once, nearer and lower.
-fn state(rt: &impl Abort, heap: Global) -> Result<State, Fail> {
-    let mut state = State::new(heap)?;
+fn register(rt: &impl Abort, heap: Global) -> Result<Register, Fail> {
+    let mut register = Register::new(heap)?;
     for name in NAMES {
-        assert!(rt; state.register.enrol(name.as_bytes()).is_ok());
+        assert!(rt; register.enrol(name.as_bytes()).is_ok());
     }
+    Ok(register)
+}
+
+// A link over whom Forge vouches for, and Dana at once, nearer and lower.
+fn book(rt: &impl Abort, heap: Global, register: &Register) -> Result<Book, Fail> {
+    let mut book = Book::new(heap)?;
     let claims = [
         Claim {
             head: role(FORGE, PUSH),
@@ -75,18 +80,20 @@ fn state(rt: &impl Abort, heap: Global) -> Result<State, Fail> {
         },
     ];
     for claim in claims {
-        assert!(rt; state.book.add(&state.register, claim).is_ok());
+        assert!(rt; book.add(register, claim).is_ok());
     }
-    Ok(state)
+    Ok(book)
 }
 
 #[test]
 fn each_scale(rt: HostRuntime) -> Result<(), Fail> {
     let heap = rt.alloc();
-    let mut state = state(&rt, heap)?;
+    let register = register(&rt, heap)?;
+    let book = book(&rt, heap, &register)?;
+    let mut slip = Slip::new(heap)?;
     let unlimited = record(-1, -1);
     assert_eq!(rt;
-        decide_asked(&state, asked(ScaleWord::Yes, unlimited)),
+        decide_asked(&register, &book, &slip, asked(ScaleWord::Yes, unlimited)),
         Ok(Verdict::Granted {
             weight: Weight::Yes,
             steps: 1,
@@ -94,7 +101,12 @@ fn each_scale(rt: HostRuntime) -> Result<(), Fail> {
         })
     );
     assert_eq!(rt;
-        decide_asked(&state, asked(ScaleWord::Ceiling, record(1500, -1))),
+        decide_asked(
+            &register,
+            &book,
+            &slip,
+            asked(ScaleWord::Ceiling, record(1500, -1))
+        ),
         Ok(Verdict::Granted {
             weight: Weight::Ceiling(2000),
             steps: 3,
@@ -102,14 +114,24 @@ fn each_scale(rt: HostRuntime) -> Result<(), Fail> {
         })
     );
     assert_eq!(rt;
-        decide_asked(&state, asked(ScaleWord::Distance, record(-1, 0))),
+        decide_asked(
+            &register,
+            &book,
+            &slip,
+            asked(ScaleWord::Distance, record(-1, 0))
+        ),
         Ok(Verdict::Denied {
             best: Some(Weight::Distance(1)),
             rounds: 2
         })
     );
     assert_eq!(rt;
-        decide_asked(&state, asked(ScaleWord::Nearest, unlimited)),
+        decide_asked(
+            &register,
+            &book,
+            &slip,
+            asked(ScaleWord::Nearest, unlimited)
+        ),
         Ok(Verdict::Granted {
             weight: Weight::Nearest {
                 distance: 1,
@@ -124,9 +146,14 @@ fn each_scale(rt: HostRuntime) -> Result<(), Fail> {
         head: role(FORGE, PUSH),
         body: Body::Member(Entity(DANA), record(-2, 0)),
     };
-    assert!(rt; state.slip.present(presented).is_ok());
+    assert!(rt; slip.present(presented).is_ok());
     assert_eq!(rt;
-        decide_asked(&state, asked(ScaleWord::Distance, record(-1, 0))),
+        decide_asked(
+            &register,
+            &book,
+            &slip,
+            asked(ScaleWord::Distance, record(-1, 0))
+        ),
         Ok(Verdict::Granted {
             weight: Weight::Distance(0),
             steps: 1,
@@ -134,7 +161,12 @@ fn each_scale(rt: HostRuntime) -> Result<(), Fail> {
         })
     );
     assert_eq!(rt;
-        decide_asked(&state, asked(ScaleWord::Ceiling, record(1500, -1))),
+        decide_asked(
+            &register,
+            &book,
+            &slip,
+            asked(ScaleWord::Ceiling, record(1500, -1))
+        ),
         Err(DecideRefusal::BadCredential(Origin { layer: 2, place: 0 }))
     );
     Ok(())

@@ -53,7 +53,7 @@ impl HeadIndex {
     }
 
     // Gives a role the next number, unless it has one.
-    pub(crate) fn note(&mut self, head: Role)
+    pub fn note(&mut self, head: Role)
         requires room { head_count self.old < 65536 }
         requires known { RoleIn 64 head }
         ensures { (rs : List AnyRole) → Indexed self.old rs → Indexed self.new (noted rs head) }

@@ -1,8 +1,10 @@
 -- What the reader's answers say, by number and values.
 use Rattle.std.specs.Prelude.{◌≡◌, ℕ, Bool, List, Ok, Err, Result}
+use Rattle.book.specs.declared.store.Register.{Register}
+use Rattle.book.specs.declared.store.Book.{Book}
 use Rattle.book.specs.Plain.{Call, at_place, refused, fed}
 use Rattle.book.specs.Kept.{plain, number, enrol_said}
-use Rattle.run_state.specs.declared.State.{State as RunState}
+use Rattle.source.specs.declared.slips.Slip.{Slip}
 use Rattle.source.specs.Slips as slips
 use Rattle.source.specs.Slips.{presented}
 use Rattle.reader.specs.declared.faults.ReadFault.{ReadFault}
@@ -36,6 +38,6 @@ line_said (Err e) = fault_said e
 abbrev pub StandsAfterLine : State → List ℕ → Bool → State → Type 0
 StandsAfterLine before bs ended after = (past : List Call) → before.book ≡ fed past → after.book ≡ fed (calls_by (reading (fed past) bs ended) past)
 
--- the register, its book and the slip as such a state
-abbrev pub told_state : RunState → State
-told_state s = record { book = plain s.register s.book; slip = presented s.slip }
+-- a register, its book and a slip as such a state
+abbrev pub state : Register → Book → Slip → State
+state g b s = record { book = plain g b; slip = presented s }

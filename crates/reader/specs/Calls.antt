@@ -82,10 +82,6 @@ outcome_by s (Ok (calls call)) = answered (answer s.book call)
 outcome_by s (Ok (presents c)) = answered (present_answer s.slip)
 outcome_by s (Err f) = faulted f
 
--- the same of a command
-abbrev pub outcome_of : State → Command → Outcome
-outcome_of s c = outcome_by s (faulty 18 (act_of s.book c))
-
 abbrev pub outcome : State → List ℕ → Bool → Outcome
 outcome s bs ended = outcome_by s (reading s.book bs ended)
 
@@ -94,9 +90,6 @@ abbrev pub next_by : State → Result Act Fault → State
 next_by s (Ok (calls call)) = record { book = next s.book call; slip = s.slip }
 next_by s (Ok (presents c)) = record { book = s.book; slip = present_next s.slip c }
 next_by s (Err f) = s
-
-abbrev pub next_of : State → Command → State
-next_of s c = next_by s (faulty 18 (act_of s.book c))
 
 abbrev pub next_line : State → List ℕ → Bool → State
 next_line s bs ended = next_by s (reading s.book bs ended)

@@ -6,15 +6,15 @@ ghost use Rattle.book.specs.Kept.{entities, role_names, names_of, plain};
 ghost use Rattle.reader.specs.Sentences.{role_by, phrase_by, sentence_by};
 ghost use Rattle.reader.specs.Calls.{known, known_role, known_body, known_claim, outcome, next_line};
 ghost use Rattle.reader.specs.Told.{unknown_at};
-ghost use Rattle.reader.specs.Answers.{line_said, told_state, StandsAfterLine};
+ghost use Rattle.reader.specs.Answers.{line_said, state, StandsAfterLine};
 ghost use Rattle.reader.specs.RoundTrip.{SpelledBack, ReadBack};
 
 use crate::faults::{ReadFault, Unknown};
 use crate::grammar::{Line, parse};
 use crate::sentence::{Command, Phrase, RoleText, Sentence};
-use book::{Enrolled, NameNumber, Register};
+use book::{Book, Enrolled, NameNumber, Register};
 use credential::{Body, Claim, Record, Role};
-use run_state::State;
+use source::Slip;
 use words::Part;
 
 // What the call that a line makes answers.
@@ -70,28 +70,34 @@ fn claim<W: Copy>(register: &Register, sentence: Sentence<Part, W>) -> Result<Cl
     Ok(Claim { head, body })
 }
 
-// Obeys a line of the text. A line that is refused changes nothing.
+// Obeys a line of the text. A line that is refused changes nothing. Register, book and slip are lent apart: one
+// struct of them would ask that the caller owns all three together.
 #[tactic(auto, using(crate::proofs::RoundTrips::spelled_back, crate::proofs::RoundTrips::read_back))]
-pub fn read(state: &mut State, line: Line) -> Result<Reply, ReadFault>
-    ensures answers { line_said result ≡ outcome (told_state state.old) line.entry.text.now line.entry.ended }
-    ensures changes { told_state state.new ≡ next_line (told_state state.old) line.entry.text.now line.entry.ended }
-    ensures uses { StandsAfterLine (told_state state.old) line.entry.text.now line.entry.ended (told_state state.new) }
-    ensures spelled_back { SpelledBack (plain state.old.register state.old.book) line.entry.text.now line.entry.ended }
+pub fn read(
+    register: &mut Register,
+    book: &mut Book,
+    slip: &mut Slip,
+    line: Line,
+) -> Result<Reply, ReadFault>
+    ensures answers { line_said result ≡ outcome (state register.old book.old slip.old) line.entry.text.now line.entry.ended }
+    ensures changes { state register.new book.new slip.new ≡ next_line (state register.old book.old slip.old) line.entry.text.now line.entry.ended }
+    ensures uses { StandsAfterLine (state register.old book.old slip.old) line.entry.text.now line.entry.ended (state register.new book.new slip.new) }
+    ensures spelled_back { SpelledBack (plain register.old book.old) line.entry.text.now line.entry.ended }
     ensures read_back { (past : List Call) → ReadBack (fed past) }
 {
     match parse(line)? {
-        Command::Enrol(name) => Ok(Reply::Enrolled(state.register.enrol(name.text)?)),
+        Command::Enrol(name) => Ok(Reply::Enrolled(register.enrol(name.text)?)),
         Command::Add(sentence) => {
-            let credential = claim(&state.register, sentence)?;
-            Ok(Reply::Added(state.book.add(&state.register, credential)?))
+            let credential = claim(register, sentence)?;
+            Ok(Reply::Added(book.add(register, credential)?))
         }
         Command::Withdraw(sentence) => {
-            let statement = claim(&state.register, sentence)?;
-            Ok(Reply::Withdrawn(state.book.withdraw(&state.register, statement)?))
+            let statement = claim(register, sentence)?;
+            Ok(Reply::Withdrawn(book.withdraw(register, statement)?))
         }
         Command::Present(sentence) => {
-            let credential = claim(&state.register, sentence)?;
-            Ok(Reply::Presented(state.slip.present(credential)?))
+            let credential = claim(register, sentence)?;
+            Ok(Reply::Presented(slip.present(credential)?))
         }
     }
 }

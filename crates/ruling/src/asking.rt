@@ -5,13 +5,13 @@ ghost use Rattle.source.specs.Slips.{presented};
 ghost use Rattle.ruling.specs.Rulings.{verdict_by, RuledOn, Rules};
 
 use crate::weights::{ToldScale, Weight};
+use book::{Book, Register};
 use credential::Entity;
 use decision::{DecideRefusal, Request, Verdict, Work, decide_with_book};
 use rules::{Reason, Step};
-use run_state::State;
 use scale::yes::Yes;
 use scale::{Ceilings, Distances, Nearest};
-use source::Empty;
+use source::{Empty, Slip};
 
 // How many cells `decide_asked` lends: arrays of fixed size, since no decision may want memory.
 pub const CELLS: usize = 2048;
@@ -72,14 +72,16 @@ fn told<S: ToldScale>(verdict: Verdict<S>) -> Verdict<Weight>
 // Decides on the scale S, and tells the weights. The weight lists come from where the size of a weight is
 // known.
 fn decide_on<S: ToldScale>(
-    state: &State,
+    register: &Register,
+    book: &Book,
+    slip: &Slip,
     request: Request,
     former: &mut [Option<S>],
     latest: &mut [Option<S>],
 ) -> Result<Verdict<Weight>, DecideRefusal>
     requires former { length former.old ≡ 2048 }
     requires latest { length latest.old ≡ 2048 }
-    ensures { RuledOn S.Scale.meaning S.ToldScale.tells (plain state.now.register state.now.book) (presented state.now.slip) request result }
+    ensures { RuledOn S.Scale.meaning S.ToldScale.tells (plain register.now book.now) (presented slip.now) request result }
 {
     let mut reasons = [NO_REASON; CELLS];
     let mut steps = [NO_STEP; CELLS];
@@ -89,26 +91,32 @@ fn decide_on<S: ToldScale>(
         reasons: &mut reasons,
         steps: &mut steps,
     };
-    let verdict = decide_with_book(
-        &state.register,
-        Empty,
-        &state.book,
-        &state.slip,
-        request,
-        work,
-    )?;
+    let verdict = decide_with_book(register, Empty, book, slip, request, work)?;
     Ok(told(verdict))
 }
 
-// Decides on the scale that is named, over the book joined with the slip.
-pub fn decide_asked(state: &State, asked: Asked) -> Result<Verdict<Weight>, DecideRefusal>
-    ensures { Rules (plain state.now.register state.now.book) (presented state.now.slip) asked result }
+// Decides on the scale that is named, over the book joined with the slip. The three are lent apart: one struct
+// of them would ask more of a caller, who may have several slips over one book.
+pub fn decide_asked(
+    register: &Register,
+    book: &Book,
+    slip: &Slip,
+    asked: Asked,
+) -> Result<Verdict<Weight>, DecideRefusal>
+    ensures { Rules (plain register.now book.now) (presented slip.now) asked result }
 {
     macro_rules! decided_on {
         ($scale:ty) => {{
             let mut former = [None::<$scale>; CELLS];
             let mut latest = [None::<$scale>; CELLS];
-            decide_on(state, asked.request, &mut former, &mut latest)
+            decide_on(
+                register,
+                book,
+                slip,
+                asked.request,
+                &mut former,
+                &mut latest,
+            )
         }};
     }
     match asked.scale {

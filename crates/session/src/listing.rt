@@ -14,8 +14,8 @@ impl Session {
         ensures { IfOk result (λ v. v.items ≡ in_force (state self.now).book) }
     {
         let mut out = Vec::new(heap);
-        for credential in self.state.book.credentials() {
-            let text = statement_text(&self.state.register, credential).unwrap();
+        for credential in self.book.credentials() {
+            let text = statement_text(&self.register, credential).unwrap();
             out.extend_from_slice(text.as_slice())?;
             out.push(b'\n')?;
         }

@@ -6,6 +6,7 @@ ghost use Rattle.session.specs.Transcript.{printed};
 use reader::ReadFault;
 use std::alloc::AllocError;
 
+// Written at once and no `Display`: the clause speaks of the text that is added.
 pub(crate) fn print_fault(out: &mut String, fault: ReadFault) -> Result<(), AllocError>
     ensures { OnOk result (string_bytes out.new ≡ string_bytes out.old ++ printed (fault_said fault)) }
 {

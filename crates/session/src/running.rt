@@ -9,10 +9,11 @@ ghost use Rattle.session.specs.Turns.{told_line, left_lines, Answered};
 use crate::lines::Lines;
 use crate::printing::print_fault;
 use crate::state::Session;
+use book::{Book, Register};
 use reader::grammar::parse_header;
 use reader::lines::read;
 use reader::{Line, Malformed};
-use run_state::State;
+use source::Slip;
 use std::alloc::{AllocError, Global};
 
 // An input may have at most this many bytes.
@@ -30,15 +31,22 @@ impl Session {
     pub fn new(heap: Global) -> Result<Session, AllocError>
         ensures { IfOk result (λ s. state s ≡ start) }
     {
-        let state = State::new(heap)?;
-        Ok(Session { state })
+        let register = Register::new(heap)?;
+        let book = Book::new(heap)?;
+        let slip = Slip::new(heap)?;
+        Ok(Session {
+            register,
+            book,
+            slip,
+        })
     }
 
     // Obeys a line, and prints its refusal, if any.
     fn answer(&mut self, line: Line, out: &mut String) -> Result<(), AllocError>
         ensures { OnOk result (Answered (state self.old) (told_line line.entry ∷ []) (string_bytes out.old) (state self.new) (string_bytes out.new)) }
     {
-        match read(&mut self.state, line) {
+        let reply = read(&mut self.register, &mut self.book, &mut self.slip, line);
+        match reply {
             Ok(_) => Ok(()),
             Err(fault) => print_fault(out, fault),
         }

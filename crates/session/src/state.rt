@@ -2,11 +2,14 @@ ghost use Rattle.std.specs.Prelude.{◌≡◌, true};
 ghost use Rattle.book.specs.Kept.{plain};
 ghost use Rattle.session.specs.Listed.{all_enrolled};
 
-use run_state::State;
+use book::{Book, Register};
+use source::Slip;
 
-// The state that the lines of one input change; whatever they are, each credential in force is enrolled.
+// The register, its book and the slip, which the lines of one input change.
 #[derive(Drop)]
 pub struct Session {
-    pub(crate) state: State,
-    ghost enrolled: { all_enrolled (plain state.register state.book) ≡ true },
+    pub(crate) register: Register,
+    pub(crate) book: Book,
+    pub(crate) slip: Slip,
+    ghost enrolled: { all_enrolled (plain register book) ≡ true },
 }

@@ -8,7 +8,7 @@ use Rattle.words.specs.Split.{split, placed, Placed}
 abbrev pub told : Part → Placed
 told p = record { byte = p.byte; text = p.text.now }
 
--- the parts of r between single separators, if there is such a part
+-- the parts of p between single separators, if there is such a part
 abbrev pub parts_of : ℕ → Option Part → List Placed
 parts_of sep None = []
 parts_of sep (Some p) = placed p.byte (split sep p.text.now)

@@ -9,4 +9,4 @@ pub invariant_of-self : goal.invariant_of-self
 invariant_of-self c =
     let s = state c.args.self.now in
     let kept = still_enrolled s (reading s.book c.args.line.text.now c.args.line.ended) c.args.self.now.enrolled in
-    record { enrolled = subst (λ (q : State). all_enrolled q.book ≡ true) (sym c.read.ensures.changes) kept }
+    record { enrolled = subst (λ (q : State). all_enrolled q.book ≡ true) (sym c.read-reply.ensures.changes) kept }
