@@ -47,9 +47,8 @@ module _ {X : Type 0} (f : X → List ℕ) (r : Option X) (e : Bool) (t : List �
   pub told_text : e ≡ true → (v : X) → r ≡ Some v → f v ≡ t
   told_text known v is = let h : ◌≡◌ {A = Option (List ℕ)} (Some (f v)) (Some t) = sym (ap (option_map f) is) ∙ told ∙ ap (λ b. then_some b t) known in cc
 
-pub one_more : (p : Plain) (cs : List Credential) (i : ℕ) (d : Credential) → i < length cs → (out new : List ℕ) → new ≡ out ++ (text p (get_or cs i d) ++ 10 ∷ []) → new ++ listing p (drop (i + 1) cs) ≡ out ++ listing p (drop i cs)
-one_more p cs i d lt out new put =
+pub one_more : (p : Plain) (cs : List Credential) (i : ℕ) (d : Credential) → i < length cs → (out new word : List ℕ) → new ≡ out ++ (word ++ 10 ∷ []) → word ≡ text p (get_or cs i d) → new ++ listing p (drop (i + 1) cs) ≡ out ++ listing p (drop i cs)
+one_more p cs i d lt out new word put is =
     let rest = listing p (drop (i + 1) cs) in
-    let word = text p (get_or cs i d) in
     ap (λ l. l ++ rest) put ∙ append_assoc out (word ++ 10 ∷ []) rest ∙ ap (λ l. out ++ l) (append_assoc word (10 ∷ []) rest)
-    ∙ ap (λ l. out ++ l) (sym (at_drop_more (listing p) cs i d lt))
+    ∙ ap (λ l. out ++ (l ++ 10 ∷ rest)) is ∙ ap (λ l. out ++ l) (sym (at_drop_more (listing p) cs i d lt))

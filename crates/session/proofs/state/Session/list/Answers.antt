@@ -1,4 +1,4 @@
-use Rattle.std.proofs.Common.{[], ◌∷◌, ◌++◌, vec_items, ap, ◌∙◌, append_assoc}
+use Rattle.std.proofs.Common.{◌≡◌, [], ◌∷◌, ◌++◌, vec_items, ◌∙◌, append_assoc, rules}
 use Rattle.session.specs.State.{state}
 use Rattle.session.proofs.Lists.{enrolled_at, is_told, told_text, one_more}
 use Rattle.session.proofs.state.Session.list.Goals as goal
@@ -15,7 +15,9 @@ loop-credential-preserved c =
     let cs = c.credentials-credential-items.result.now in
     let i = c.loop-credential.credential-index in
     let out = vec_items c.loop-credential.out in
+    let new = vec_items c.push.new.self in
+    let word = c.unwrap-text.result.items in
     let known = enrolled_at p cs i _ c.credentials-credential-items.ensures c.args.self.now.enrolled c.loop-credential-test.true in
-    let word = told_text _ _ _ _ (c.statement_text.ensures.value c.args.self.now.book) known c.unwrap-text.result c.unwrap-text.ensures in
-    let put = c.in_ok-push.ensures.items ∙ ap (λ l. l ++ 10 ∷ []) (c.in_ok-extend_from_slice.ensures.items ∙ ap (λ l. out ++ l) (c.as_slice.ensures.value ∙ word)) ∙ append_assoc out _ (10 ∷ []) in
-    one_more p cs i _ c.loop-credential-test.true out _ put ∙ c.loop-credential.invariant
+    let is = told_text _ _ _ _ (c.statement_text.ensures.value c.args.self.now.book) known c.unwrap-text.result c.unwrap-text.ensures in
+    let put : new ≡ out ++ (word ++ 10 ∷ []) = search (rules, append_assoc) in
+    one_more p cs i _ c.loop-credential-test.true out new word put is ∙ c.loop-credential.invariant
