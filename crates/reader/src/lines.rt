@@ -29,7 +29,7 @@ pub enum Reply {
     Presented(usize),
 }
 
-// The number of a name.
+// The number of a name. These are functions and no `From`, since a name is looked up in the register.
 fn named<N: NameNumber>(register: &Register, word: Part) -> Result<N, Unknown>
     ensures { unknown_at N.number result ≡ known (names_of N.KIND register.now) (told word.entry) }
 {

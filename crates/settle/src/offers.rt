@@ -18,7 +18,8 @@ use source::Source;
 // reasons are is pinned by them.
 const NO_MIDDLE: Entity = Entity(0);
 
-// The weight that a list has for a head and a member, none for a role that is no head.
+// The weight that a list has for a head and a member, none for a role that is no head. The width of a row, count,
+// stays beside the list, since any list that has rows of that width may be asked.
 pub fn weight_of<S: Scale>(
     former: &[Option<S>],
     head: Option<u16>,
