@@ -56,7 +56,8 @@ pub type Credential = Claim<Record>;
 pub type Statement = Claim<()>;
 
 impl Claim<Record> {
-    // What it states, its weight aside.
+    // What it states, its weight aside. A match and no `From`: that would hold the same arms, and callers read
+    // `c.statement()`.
     pub fn statement(&self) -> Statement
         ensures { result ≡ statement_of self.now }
     {

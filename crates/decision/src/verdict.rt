@@ -57,7 +57,8 @@ impl From<Origin> for DecideRefusal {
 }
 
 // The lists that a caller lends. Both weight lists begin with the final table afterwards, the reason
-// list with the reasons, and a grant's steps begin the step list; all beyond is unchanged.
+// list with the reasons, and a grant's steps begin the step list; all beyond is unchanged. Four lists and no list
+// of entries: so a caller lends them by the project's rules.
 #[derive(Drop)]
 pub struct Work<'a, S> {
     pub former: &'a mut [Option<S>],

@@ -1,4 +1,5 @@
 // Reads standard input, and prints what the gate answers.
+// What is left of the two programs differs in the call; a closure for it would be no plainer.
 #![tactic(auto)]
 
 use session::{read_input, transcript};

@@ -44,7 +44,8 @@ impl HeadIndex {
         self.count
     }
 
-    // The number of a head, if the role is one.
+    // The number of a head, if the role is one. How many are enrolled is no fact about a role alone, so no type
+    // of roles carries it.
     pub fn head_of(&self, role: Role) -> Option<u16>
         requires known { RoleIn 64 role }
         ensures { result ≡ head_at self.now role }

@@ -57,7 +57,8 @@ impl<'a> Words<'a> {
         })
     }
 
-    // Here and below each word meets a pattern of its own: passed as a closure it would be no shorter.
+    // Here and below each word meets a pattern of its own. One function over closures would take a definition
+    // and an answer for each pattern more, and shorten two of five.
     fn role(&mut self) -> Result<RoleText<Part<'a>>, Malformed>
         ensures { Reads (role_by told) (fit a_role) self.old result self.new }
     {

@@ -1,6 +1,9 @@
 use credential::Record;
 use words::Part;
 
+// The written forms are types of their own: in `Role` and `Body` entities and role names are two types, and
+// here both are names.
+
 // A role as it is written, `A.r`. N is how a name is told: as a part of a line, or by its bytes.
 #[derive(Clone, Copy)]
 pub struct RoleText<N> {

@@ -1,4 +1,5 @@
 // Reads standard input, and prints every statement that is in force at its end.
+// What is left of the two programs differs in the call; a closure for it would be no plainer.
 #![tactic(auto)]
 
 use session::{read_input, roster};

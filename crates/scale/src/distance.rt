@@ -29,6 +29,7 @@ impl<const MOST: u32> Scale for Distance<MOST> {
 
     fn combine(self, other: Self) -> Option<Self> {
         let points = self.points.checked_add(other.points)?;
+        // Tried as a filter: where the distance is made, the fact of its field was then not known.
         if points > MOST {
             return None;
         }

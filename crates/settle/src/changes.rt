@@ -16,7 +16,8 @@ fn row_changed<S: Scale>(former: &[Option<S>], latest: &[Option<S>]) -> bool
         .any(|(was, is)| !at_least(*was, *is))
 }
 
-// Notes which rows changed, and says whether one did.
+// Notes which rows changed, and says whether one did. Rows are cut by their number: `chunks` asks that a row is not
+// empty, and after a zip with `iter_mut` nothing is known of what was written.
 pub(crate) fn note_changes<S: Scale>(
     former: &[Option<S>],
     latest: &[Option<S>],

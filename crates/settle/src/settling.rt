@@ -33,7 +33,7 @@ fn fill<T: Copy>(list: &mut [T], value: T)
 }
 
 // Settles what a source shows, on lists that are as long as the cells: answers the number of rounds, and
-// leaves the table in both weight lists and the reasons in theirs.
+// leaves the table in both weight lists and the reasons in theirs, which are apart as decide is lent them.
 pub fn settle<R: Source, S: Scale>(
     admitted: &Admitted<'_, R>,
     former: &mut [Option<S>],

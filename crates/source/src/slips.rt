@@ -8,7 +8,7 @@ pub mod calls;
 pub const PRESENTED: usize = 16;
 
 // The credentials that a client presents, in order. Nothing is judged here: that is the decision's
-// part. All room is reserved when it is made.
+// part. All room is reserved when it is made. A vector of its own, as the book says of its own.
 #[derive(Drop)]
 pub struct Slip {
     credentials: Vec<Credential>,

@@ -5,7 +5,7 @@ use crate::grant::CELLS;
 use crate::reasons::{CellStep, Reasons};
 use arrayvec::ArrayVec;
 
-// Cells in the order of their steps, and the number of each cell's step, in memory that no walk can want.
+// Cells in the order of their steps, and the number of each cell's step, in fixed memory, since no walk may want any.
 #[derive(Drop)]
 pub(crate) struct Order {
     pub numbers: [Option<u16>; CELLS],

@@ -14,6 +14,7 @@ pub fn read_integer(word: &[u8]) -> Option<i32>
     if !is_plain(word) {
         return None;
     }
+    // `ok()?` would lose which of the two cases it is, which the proof reads.
     let Ok(text) = str::from_utf8(word) else {
         return None;
     };

@@ -14,7 +14,7 @@ use reader::{Phrase, RoleText, Sentence};
 // The longest statement is `A.r <- B.s & C.t`: three roles, and 7 bytes between them.
 pub const CAPACITY: usize = 3 * (2 * NAME_LENGTH + 1) + 7;
 
-// A text that is being made up.
+// A text that is being made up. No `Display`: `fmt::Write` promises nothing of when a write fails.
 type Draft = ArrayVec<u8, CAPACITY>;
 
 fn push_role(draft: &mut Draft, role: RoleText<&[u8]>)

@@ -20,7 +20,7 @@ fn are_name_bytes(word: &[u8]) -> bool
 fn is_name(word: &[u8]) -> bool
     ensures { result ≡ name word.now }
 {
-    0 < word.len() && word.len() <= NAME_LENGTH && are_name_bytes(word)
+    (1..=NAME_LENGTH).contains(&word.len()) && are_name_bytes(word)
 }
 
 // One for each kind, since their callers ask of one kind at a time: `is_entity(word)` reads plainer than

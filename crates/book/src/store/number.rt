@@ -6,7 +6,8 @@ ghost use Rattle.book.specs.declared.refusal.Kind.TheVariants as kinds;
 use crate::refusal::Kind;
 use credential::{Entity, RoleName};
 
-// The number of a name among those of its kind.
+// The number of a name among those of its kind. Methods and no `From`, since clauses name the number as a
+// function.
 pub trait NameNumber: Copy {
     ghost KIND: { NameKind };
 
