@@ -1,4 +1,5 @@
 pub mod Names
+pub mod Padded
 pub mod Plain
 pub mod Kept
 pub mod Puts

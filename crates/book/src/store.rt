@@ -1,6 +1,5 @@
 ghost use Rattle.std.specs.Prelude.{ℕ, ◌≤◌, List, vec_len, vec_capacity};
 
-use arrayvec::ArrayVec;
 use credential::Credential;
 use std::marker::Model;
 
@@ -18,14 +17,30 @@ pub const ROLE_NAMES: usize = 32;
 
 pub const CREDENTIALS: usize = 256;
 
-// A name as it is kept: clauses see its bytes.
-#[derive(Drop)]
-pub struct Name(ArrayVec<u8, NAME_LENGTH>);
+// A name as it is kept, the first `len` of its bytes, zeros after them: clauses see these bytes. No `ArrayVec`,
+// since a name may be copied.
+#[derive(Clone, Copy, Debug)]
+pub struct Name {
+    bytes: [u8; NAME_LENGTH],
+    len: u8,
+}
 
 impl Model for Name {
+    ghost use Rattle.std.specs.Prelude.{ℕ, ◌≡◌, ◌-◌, ◌≤◌, List, ◌++◌, length, take, replicate};
+    ghost use Rattle.book.specs.Padded.{long, padded};
+
     ghost Value = { List ℕ };
 
-    ghost view = { λ n. n.0.items };
+    ghost view = { λ n. take n.len n.bytes };
+
+    ghost invariant = { λ n. (n.len ≤ 24) × (length n.bytes ≡ 24) × (n.bytes ≡ take n.len n.bytes ++ replicate (24 - n.len) 0) };
+
+    ghost inverse = { λ w. record { bytes = w ++ replicate (24 - length w) 0; len = length w } };
+
+    ghost inverse_ok = { λ n h i. record {
+      bytes = padded n.len n.bytes h.0 h.1 h.2 i;
+      len = long n.len n.bytes h.0 h.1 i;
+    } };
 }
 
 // The names of one kind, in order of enrolment: a name's place is its number, a byte. There may be

@@ -1,13 +1,16 @@
 // The index of the heads: the number of each role that is the head of some credential.
-ghost use Rattle.std.specs.Prelude.{◌≡◌, ◌+◌, ◌<◌, ◌≤◌, [], List};
+ghost use Rattle.std.specs.Prelude.{◌≡◌, ◌+◌, ◌<◌, ◌≤◌, [], List, length};
 ghost use Rattle.credential.specs.declared.Role.{Role as AnyRole};
 ghost use Rattle.heads.specs.Enrolled.{RoleIn};
-ghost use Rattle.heads.specs.Slots.{slot};
+ghost use Rattle.heads.specs.Slots.{slot, number_in};
 
 use credential::Role;
 
 // A slot for each of 64 entities and 32 role names.
-const HEAD_SLOTS: usize = 2048;
+pub const HEAD_SLOTS: usize = 2048;
+
+// In a slot of plain numbers: the role is no head. A number and no Option, for callers whose numbers lie so.
+pub const NO_HEAD: u16 = 65_535;
 
 const ROLE_NAMES: usize = 32;
 
@@ -23,6 +26,16 @@ fn slot_of(role: Role) -> usize
     ensures { result ≡ slot role }
 {
     role.entity.0 as usize * ROLE_NAMES + role.name.0 as usize
+}
+
+// The number of a head by plain numbers, one in each slot, if the role is one.
+pub fn head_of(numbers: &[u16], role: Role) -> Option<u16>
+    requires long { length numbers.now ≡ 2048 }
+    requires known { RoleIn 64 role }
+    ensures { result ≡ number_in numbers.now role }
+{
+    let h = numbers[slot_of(role)];
+    if h == NO_HEAD { None } else { Some(h) }
 }
 
 impl HeadIndex {

@@ -7,4 +7,4 @@ pub mod index;
 
 pub use admission::admit;
 pub use admitted::Admitted;
-pub use index::HeadIndex;
+pub use index::{HEAD_SLOTS, HeadIndex, NO_HEAD, head_of};

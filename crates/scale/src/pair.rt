@@ -1,7 +1,6 @@
 // One weight of each of two scales, a strict one and a solid one. First parts are compared, then second
 // parts, and a weight that lacks a part is none.
-ghost use Rattle.std.specs.Prelude.{◌≡◌};
-ghost use Rattle.scale.specs.Pair.{both, pair_meaning};
+ghost use Rattle.scale.specs.Pair.{pair_meaning};
 ghost use Rattle.scale.specs.PairLaws.{pair_laws, pair_chooses};
 
 use crate::{Scale, SolidScale, StrictScale};
@@ -27,11 +26,12 @@ impl<A: StrictScale, B: SolidScale> Scale for Pair<A, B> {
         }
     }
 
+    // Here and in the readings the second part is not asked for where the first is none.
     fn combine(self, other: Self) -> Option<Self> {
-        Pair::of_both(
-            self.first.combine(other.first),
-            self.second.combine(other.second),
-        )
+        Some(Pair {
+            first: self.first.combine(other.first)?,
+            second: self.second.combine(other.second)?,
+        })
     }
 
     #[tactic(auto, using(crate::proofs::Pairs::not_least))]
@@ -41,22 +41,16 @@ impl<A: StrictScale, B: SolidScale> Scale for Pair<A, B> {
     }
 
     fn read_credential(stated: Record) -> Option<Self> {
-        Pair::of_both(A::read_credential(stated), B::read_credential(stated))
+        Some(Pair {
+            first: A::read_credential(stated)?,
+            second: B::read_credential(stated)?,
+        })
     }
 
     fn read_threshold(stated: Record) -> Option<Self> {
-        Pair::of_both(A::read_threshold(stated), B::read_threshold(stated))
-    }
-}
-
-impl<A: Copy, B: Copy> Pair<A, B> {
-    // `None` if either part is.
-    fn of_both(first: Option<A>, second: Option<B>) -> Option<Self>
-        ensures { result ≡ both first second }
-    {
         Some(Pair {
-            first: first?,
-            second: second?,
+            first: A::read_threshold(stated)?,
+            second: B::read_threshold(stated)?,
         })
     }
 }

@@ -8,10 +8,10 @@ use crate::Scale;
 pub fn better_of<S: Scale>(x: Option<S>, y: Option<S>) -> Option<S>
     ensures { result ≡ better_of S.Scale.meaning x y }
 {
-    match (x, y) {
-        (Some(a), Some(b)) => Some(a.better_of(b)),
-        _ => x.or(y),
-    }
+    let Some(a) = x else {
+        return y;
+    };
+    Some(y.map_or(a, |b| a.better_of(b)))
 }
 
 pub fn combine<S: Scale>(x: Option<S>, y: Option<S>) -> Option<S>
@@ -23,9 +23,10 @@ pub fn combine<S: Scale>(x: Option<S>, y: Option<S>) -> Option<S>
 pub fn at_least<S: Scale>(x: Option<S>, y: Option<S>) -> bool
     ensures { Decides result (AtLeast S.Scale.meaning x y) }
 {
-    match (x, y) {
-        (Some(a), Some(b)) => a.at_least(b),
-        _ => y.is_none(),
+    // Tested one by one, the bound first: as a pair they take twice the tests in each offer of a round.
+    match y {
+        Some(b) => x.is_some_and(|a| a.at_least(b)),
+        None => true,
     }
 }
 

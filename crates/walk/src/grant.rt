@@ -3,8 +3,10 @@ ghost use Rattle.std.specs.List.{All};
 ghost use Rattle.walk.specs.Walk.{Acyclic};
 ghost use Rattle.walk.specs.Grant.{number_of, numbered, CellGrant};
 
+use crate::number::CellNumber;
 use crate::order::{Order, put_in_order};
 use crate::reasons::{CellStep, Reasons};
+use arrayvec::ArrayVec;
 use rules::Step;
 
 // As many as a table has at most: 512 heads of 64 entities.
@@ -52,7 +54,11 @@ pub fn write_grant<G: Reasons>(reasons: &G, goal: u16, steps: &mut [Step]) -> us
     ensures granted { CellGrant (G.Reasons.leads reasons.now) goal steps.old steps.new result }
     ensures few { result ≤ G.Reasons.cells reasons.now }
 {
-    let order = put_in_order(reasons, goal);
+    let mut order = Order {
+        numbers: [CellNumber::none(); CELLS],
+        cells: ArrayVec::new(),
+    };
+    put_in_order(reasons, goal, &mut order);
     order.write_steps(reasons, steps);
     order.cells.len()
 }

@@ -2,6 +2,7 @@
 #![tactic(auto)]
 
 pub mod grant;
+mod number;
 mod order;
 pub mod reasons;
 

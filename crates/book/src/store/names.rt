@@ -55,15 +55,19 @@ impl Name {
         requires { length word.now ≤ 24 }
         ensures { result ≡ word.now }
     {
-        let mut bytes = ArrayVec::new();
-        let _ = bytes.try_extend_from_slice(word);
-        Name(bytes)
+        let mut bytes = [0u8; NAME_LENGTH];
+        let len = word.len();
+        bytes[..len].copy_from_slice(word);
+        Name {
+            bytes,
+            len: len as u8,
+        }
     }
 
     pub(super) fn text(&self) -> &[u8]
         ensures value { result.now ≡ self.now }
         ensures short { length result.now ≤ 24 }
     {
-        self.0.as_slice()
+        &self.bytes[..self.len as usize]
     }
 }

@@ -5,7 +5,7 @@ use Rattle.walk.proofs.order.put_in_order.Goals as goal
 
 pub loop-top-init : goal.loop-top-init
 loop-top-init g c =
-    rw (c.push.ensures.items, c.new-stack.ensures, c.new.ensures)
+    rw (c.push.ensures.items, c.new-stack.ensures, c.requires.unnumbered, c.requires.empty)
     (start (g.G.Reasons.leads c.args.reasons.now) (g.G.Reasons.cells c.args.reasons.now) c.args.goal _ (length-replicate {A = Option ℕ} 32768 None) (none_yet 32768) c.requires.acyclic c.requires.small c.requires.inside)
 
 pub push-requires-in-Some-open_premise : goal.push-requires-in-Some-open_premise
@@ -19,8 +19,9 @@ loop-top-preserved-in-Some-open_premise g c =
 
 pub loop-top-preserved : goal.loop-top-preserved
 loop-top-preserved g c =
-    emitted c.loop-top.invariant c.deref.ensures.0 c.in-Some.ensures.value c.step_of.ensures c.open_premise.ensures c.in-None.is
-    refl c.len.ensures.value c.push-in-None.ensures.items c.pop.ensures.rest
+    rw c.some.ensures
+    (emitted c.loop-top.invariant c.deref.ensures.0 c.in-Some.ensures.value c.step_of.ensures c.open_premise.ensures c.in-None.is
+    refl c.len.ensures.value c.push-in-None.ensures.items c.pop.ensures.rest)
 
 pub returns : goal.returns
 returns g c = finish c.loop-top.invariant (omega (arith, ap length c.deref.ensures.0, c.in_default.ensures.item.3))
